@@ -1,0 +1,50 @@
+-- Lists as queues: the head is served first. What the library has no name for.
+use mathlib.Core.Bool.{Bool, true, false, cond, _||_}
+use mathlib.Core.List.{List, [], _∷_, _++_}
+use Prim.Native.Nat.{ℕ, zero, suc}
+use lib.Dec.{leb, eqb}
+use lib.ListN.{take, drop}
+
+-- Every element is so.
+pub data Each {X : Type 0} (P : X → Type 0) : List X → Type 0 where
+  none : Each P []
+  both : {x : X} {xs : List X} → P x → Each P xs → Each P (x ∷ xs)
+
+module _ {X : Type 0} where
+  -- Nothing stands in the list.
+  unfoldable pub empty : List X → Bool
+  empty [] = true
+  empty (x ∷ xs) = false
+
+  -- x put in with n elements ahead of it.
+  unfoldable pub insertAt : ℕ → X → List X → List X
+  insertAt n x xs = take n xs ++ x ∷ drop n xs
+
+  -- The list without the element that has n ahead of it.
+  unfoldable pub removeAt : ℕ → List X → List X
+  removeAt n xs = take n xs ++ drop (suc n) xs
+
+-- How many elements stand ahead of the first n: all of them, where there is no n.
+unfoldable pub ahead : ℕ → List ℕ → ℕ
+ahead n [] = 0
+ahead n (x ∷ xs) = cond (eqb x n) 0 (suc (ahead n xs))
+
+-- The list without the first n.
+unfoldable pub without : ℕ → List ℕ → List ℕ
+without n xs = removeAt (ahead n xs) xs
+
+-- How many keys at the head are at most the limit. In a queue by key, this many stay ahead of a newcomer whose key is the limit:
+-- all of equal or smaller key.
+unfoldable pub passed : ℕ → List ℕ → ℕ
+passed limit [] = 0
+passed limit (key ∷ keys) = cond (leb key limit) (suc (passed limit keys)) 0
+
+-- The number is one of these.
+unfoldable pub oneOf : ℕ → List ℕ → Bool
+oneOf n [] = false
+oneOf n (x ∷ xs) = eqb n x || oneOf n xs
+
+-- The n numbers from first on, ascending.
+unfoldable pub ascending : ℕ → ℕ → List ℕ
+ascending first zero = []
+ascending first (suc n) = first ∷ ascending (suc first) n

@@ -1,0 +1,83 @@
+-- A call that no row of the error table refuses names valid numbers, so they lie where its names lie: read off the table.
+use mathlib.Core.Bool.{Bool, true, false, not, _&&_, _||_, cond}
+use mathlib.Core.List.{List, [], _∷_}
+use Prim.Native.Nat.{ℕ, _≤_}
+use native.Mathlib.Omega.{arith}
+use lib.Dec.{T, eqb, leb, ltb, le→leb, nltb→le}
+use Rattle.lists.specs.Lists.{Each, none, both}
+use Rattle.model.specs.Sizes.{task-limit, within}
+use Rattle.model.specs.Rows.{Key, task, suspension, queue, mailbox, message, valid}
+use Rattle.model.specs.Calls.{Call, View, calls, names, names-task, names-queue, names-mailbox, names-message, message-of}
+use Rattle.model.specs.Waits.{able}
+use Rattle.model.specs.Errors.{unknown, caller-unable, called-while-locked, called-by-handler, called-while-disabled, number-outside, tmout-outside, attribute-outside, capacity-outside, task-priority-outside, message-outside, highest-outside, missing, message-priority-outside, wrong-state, suspended-already, nothing-to-drop, polls, would-wait, ErrorRow, error-table, some-applies, refused}
+use Rattle.model.proofs.Tests.{neither-left, neither-right, not-not, not-both, not-both-left, and-both, positive}
+
+-- No row applies.
+none-applies : (rows : List ErrorRow) → T (not (some-applies rows)) → Each (λ row. T (not (row .applies))) rows
+unfolding some-applies
+none-applies [] t = none
+none-applies (row ∷ rows) t = both (neither-left (row .applies) (some-applies rows) t) (none-applies rows (neither-right (row .applies) (some-applies rows) t))
+
+pub record Passes (v : View) (c : Call) : Type 0 where
+  pub step-0 : T (not (unknown c))
+  pub step-1 : T (not (caller-unable v c))
+  pub step-2 : T (not (called-while-locked c || called-by-handler c || called-while-disabled c))
+  pub step-3 : T (not (number-outside c))
+  pub step-4 : T (not (tmout-outside c || attribute-outside c || capacity-outside c || task-priority-outside c || message-outside c || highest-outside c))
+  pub step-5 : T (not (missing v c))
+  pub step-6a : T (not (message-priority-outside v c))
+  pub step-6b : T (not (wrong-state v c))
+  pub step-6c : T (not (suspended-already v c))
+  pub step-6d : T (not (nothing-to-drop v c))
+  pub step-7 : T (not (polls c && would-wait v c))
+
+pub passes : (v : View) (c : Call) → T (not (refused true v c)) → Passes v c
+unfolding refused error-table
+passes v c t = read (none-applies (error-table true v c) t)
+  where
+    read : Each (λ row. T (not (row .applies))) (error-table true v c) → Passes v c
+    read (both s0 (both sound (both s1 (both s2 (both s3 (both s4 (both s5 (both s6a (both s6b (both s6c (both s6d (both s7 none)))))))))))) =
+        record { step-0 = s0; step-1 = s1; step-2 = s2; step-3 = s3; step-4 = s4; step-5 = s5; step-6a = s6a; step-6b = s6b; step-6c = s6c; step-6d = s6d; step-7 = s7 }
+
+-- A number that is named and passes step 3 is valid, so it lies in S where the valid names do. n is 0 where nothing is named.
+named : (S : Key → Type 0) (key : ℕ → Key) (is-named : Bool) (n : ℕ) → (T (valid (key (cond is-named n 0))) → S (key (cond is-named n 0)))
+    → T (not (is-named && not (valid (key n)))) → T is-named → S (key n)
+named S key true n own inside t = own (not-not (valid (key n)) inside)
+named S key false n own inside t = absurd t
+
+valid-caller : (n : ℕ) → T (not (eqb n 0)) → T (not (ltb task-limit n)) → T (valid (task n))
+valid-caller n some below = and-both (leb 1 n) (leb n task-limit) (le→leb 1 n (positive n some)) (le→leb n task-limit (nltb→le task-limit n below))
+
+caller-below : (v : View) (c : Call) → T (not (caller-unable v c)) → T (not (eqb (c .caller) 0)) → T (not (ltb task-limit (c .caller)))
+unfolding caller-unable
+caller-below v c able-to task-calls =
+    let fit = not-both (not (eqb (c .caller) 0)) (ltb task-limit (c .caller) || not (v .caller .defined) || not (able (v .caller .wait)) || v .caller-suspended) able-to task-calls in
+    search (fit, neither-left)
+
+-- The calls that a handler can't make: their caller is a task.
+abbrev pub task-only : Call → Bool
+task-only c = calls c (3 ∷ 4 ∷ 6 ∷ 8 ∷ 10 ∷ 13 ∷ 15 ∷ 17 ∷ [])
+
+-- What an accepted call goes by lies in S.
+pub record Accepted (S : Key → Type 0) (c : Call) : Type 0 where
+  pub task-in : T (names-task c) → S (task (c .object))
+  pub suspension-in : T (names-task c) → S (suspension (c .object))
+  pub queue-in : T (names-queue c) → S (queue (c .object))
+  pub mailbox-in : T (names-mailbox c) → S (mailbox (c .object))
+  pub message-in : T (names-message c) → S (message (message-of c))
+  pub caller-in : T (task-only c) → S (task (c .caller))
+
+pub accepted : (S : Key → Type 0) (v : View) (c : Call) → Each (λ k. T (valid k) → S k) (names c) → T (not (refused true v c)) → Accepted S c
+unfolding number-outside message-outside called-by-handler caller-unable
+accepted S v c (both me (both held (both t (both u (both q (both b (both g none))))))) ok =
+    let p = passes v c ok in
+    record {
+      task-in = named S task (names-task c) (c .object) t (search (p .step-3, neither-left, neither-right));
+      suspension-in = named S suspension (names-task c) (c .object) u (search (p .step-3, neither-left, neither-right));
+      queue-in = named S queue (names-queue c) (c .object) q (search (p .step-3, neither-left, neither-right));
+      mailbox-in = named S mailbox (names-mailbox c) (c .object) b (search (p .step-3, neither-left, neither-right));
+      message-in = named S message (names-message c) (message-of c) g (search (p .step-4, neither-left, neither-right));
+      caller-in = λ h.
+          let task-calls : T (not (eqb (c .caller) 0)) = not-both-left (eqb (c .caller) 0) (task-only c) (search (p .step-2, neither-left, neither-right)) h in
+          me (valid-caller (c .caller) task-calls (caller-below v c (p .step-1) task-calls));
+    }

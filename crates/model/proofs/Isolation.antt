@@ -1,0 +1,196 @@
+-- Demand 3: a carrier's part of the state is its rows with whatever stands in its objects at the start; no other carrier's call touches it.
+use mathlib.Core.Path.{_≡_, refl, sym, _∙_, ap, subst}
+use mathlib.Core.Bool.{Bool, true, false, not, cond}
+use mathlib.Core.List.{List, [], cons≢nil}
+use Prim.Native.Nat.{ℕ}
+use native.Mathlib.Omega.{arith}
+use lib.Dec.{T, eqb}
+use Rattle.lists.specs.Lists.{Each, none, both}
+use Rattle.lists.proofs.Each.{each-map}
+use Rattle.rows.specs.Program as Program
+use Rattle.rows.specs.Program.{stepOf}
+use Rattle.rows.specs.Merge.{Separate}
+use Rattle.rows.specs.Merges.{SeparateAll}
+use Rattle.rows.proofs.Footprint.{Closed}
+use Rattle.rows.proofs.Owned.{separate-programs}
+use Rattle.rows.proofs.Two.{twoLists, each-list, each-caller, two-of}
+use Rattle.model.specs.Rows.{Key, task, suspension, queue, mailbox, message, tell, valid, Row, Model}
+use Rattle.model.specs.Calls.{Call, names}
+use Rattle.model.specs.Waits.{Wait, NoWait, Sending, Receiving, AtMailbox}
+use Rattle.model.specs.Step.{program, call, step}
+use Rattle.model.specs.Isolation.{WaitsAt, QueuedAt, Linked, WaitsIn, QueuedIn, Placed, CallOf, Carrier, owns, Own, Disjoint, Isolation, Owners, owner, OwnedBy, IsolationOfMany}
+use Rattle.model.proofs.Tests.{cond-no, cond-both}
+use Rattle.model.proofs.Footprints.{Refs, in-program}
+
+module _ {I : Type 0} (o : Owners I) where
+  -- Whose part a task and a message are: a waiting task is its object's owner's, a queued message its mailbox's owner's, whosever they are.
+  abbrev waiter : I → Wait → I
+  waiter i NoWait = i
+  waiter i (Sending q end word) = o .queues q
+  waiter i (Receiving q end) = o .queues q
+  waiter i (AtMailbox b end) = o .mailboxes b
+
+  abbrev queued : I → ℕ → I
+  queued i b = cond (eqb b 0) i (o .mailboxes b)
+
+  unfoldable part : Program.Rows Row → Key → I
+  part m (task n) = waiter (o .tasks n) (m (task n) .wait)
+  part m (suspension n) = o .tasks n
+  part m (queue n) = o .queues n
+  part m (mailbox n) = o .mailboxes n
+  part m (message n) = queued (o .messages n) (m (message n) .queued-in)
+
+  -- ── A part names nothing outside itself ──
+
+  waiter-at : (i : I) (k : Key) (w : Wait) → WaitsAt k w → waiter i w ≡ owner o k
+  waiter-at i k NoWait e = absurd e
+  waiter-at i k (Sending q end word) e = ap (owner o) e
+  waiter-at i k (Receiving q end) e = ap (owner o) e
+  waiter-at i k (AtMailbox b end) e = ap (owner o) e
+
+  waiter-in : (m : Program.Rows Row) (i j : I) (w : Wait) → waiter i w ≡ j → WaitsIn (λ k. part m k ≡ j) w
+  unfolding part
+  waiter-in m i j NoWait e = tt
+  waiter-in m i j (Sending q end word) e = e
+  waiter-in m i j (Receiving q end) e = e
+  waiter-in m i j (AtMailbox b end) e = e
+
+  part-closed : (m : Program.Rows Row) → Linked m → (i : I) → Closed Refs (λ k. part m k ≡ i) m
+  unfolding part QueuedIn
+  part-closed m l i (task n) r = waiter-in m (o .tasks n) i (m (task n) .wait) r
+  part-closed m l i (suspension n) r = tt
+  part-closed m l i (queue n) r = (
+    each-map (λ t e. waiter-at _ (queue n) (m (task t) .wait) e ∙ r) (l .senders n),
+    each-map (λ t e. waiter-at _ (queue n) (m (task t) .wait) e ∙ r) (l .receivers n),
+  )
+  part-closed m l i (mailbox n) r = (
+    each-map (λ t e. waiter-at _ (mailbox n) (m (task t) .wait) e ∙ r) (l .waiters n),
+    each-map (λ g e. subst (λ b. queued (o .messages g) b ≡ i) (sym (e .here)) (cond-no (eqb n 0) _ _ (e .some) ∙ r)) (l .messages n),
+  )
+  part-closed m l i (message n) r = λ t. sym (cond-no (eqb (m (message n) .queued-in) 0) _ _ t) ∙ r
+
+  -- ── An owner's rows are in its part, where it is placed ──
+
+  waiter-own : (i j : I) (w : Wait) → i ≡ j → WaitsIn (OwnedBy o j) w → waiter i w ≡ j
+  waiter-own i j NoWait e h = e
+  waiter-own i j (Sending q end word) e h = h
+  waiter-own i j (Receiving q end) e h = h
+  waiter-own i j (AtMailbox b end) e h = h
+
+  part-own : (m : Program.Rows Row) (i : I) → Placed (OwnedBy o i) m → (k : Key) → OwnedBy o i k → part m k ≡ i
+  unfolding part QueuedIn
+  part-own m i p (task n) e = waiter-own (o .tasks n) i (m (task n) .wait) e (p .tasks n e)
+  part-own m i p (suspension n) e = e
+  part-own m i p (queue n) e = e
+  part-own m i p (mailbox n) e = e
+  part-own m i p (message n) e = cond-both (eqb (m (message n) .queued-in) 0) _ _ e (p .messages n e)
+
+-- ── Any number of carriers ──
+
+-- A call that is no tick is its program's step.
+step-call : (m : Model) (c : Call) → T (not (eqb (c .number) 0)) → step m c ≡ stepOf tell program m c
+unfolding step call
+step-call m c t = cond-no (eqb (c .number) 0) _ _ t
+
+-- What holds of an owner that has calls holds beside each of its calls.
+beside-each : {X P : Type 0} {Q : X → Type 0} (l : List X) → ((l ≡ [] → ⊥) → P) → Each Q l → Each (λ x. P × Q x) l
+beside-each l h none = none
+beside-each {X = X} {P = P} {Q = Q} l h (both q e) = let p : P = h cons≢nil in both (p, q) (each-map (λ x r. (p, r)) e)
+
+pub isolation-of-many : IsolationOfMany
+isolation-of-many I tell-owner m linked o lists placed own =
+    separate-programs tell tell-owner Refs program step (part o (m .rows)) Of
+    (λ i e c h. in-program (λ k. part o (m .rows) k ≡ i) e c (each-map (λ k g t. part-own o (m .rows) i (h .0) k (g t)) (h .1 .own-names)))
+    (λ i s c h. step-call s c (h .1 .no-tick))
+    m lists (part-closed o (m .rows) linked) (λ i. beside-each (lists i) (placed i) (own i))
+  where
+    Of : I → Call → Type 0
+    Of i c = Placed (OwnedBy o i) (m .rows) × CallOf (OwnedBy o i) c
+
+-- ── Two carriers ──
+
+data Who : Type 0 where
+  first second nobody : Who
+  deriving Discrete as tell-who
+
+-- Whose a number is, where the two carriers have none in common.
+abbrev whose : Bool → Bool → Who
+whose true y = first
+whose false true = second
+whose false false = nobody
+
+is-first : (x y : Bool) → T x → whose x y ≡ first
+is-first true y t = refl
+is-first false y t = absurd t
+
+is-second : (x y : Bool) → (T x → T y → ⊥) → T y → whose x y ≡ second
+is-second true y d t = absurd (d tt t)
+is-second false true d t = refl
+is-second false false d t = absurd t
+
+of-first : (x y : Bool) → whose x y ≡ first → T x
+of-first true y e = tt
+of-first false true e = let z : _≡_ {A = ℕ} 0 1 = cc in omega arith
+of-first false false e = let z : _≡_ {A = ℕ} 0 1 = cc in omega arith
+
+of-second : (x y : Bool) → whose x y ≡ second → T y
+of-second true true e = tt
+of-second true false e = let z : _≡_ {A = ℕ} 0 1 = cc in omega arith
+of-second false true e = tt
+of-second false false e = let z : _≡_ {A = ℕ} 0 1 = cc in omega arith
+
+-- Two ways of saying which rows are a carrier's own.
+module _ {S R : Key → Type 0} (into : (k : Key) → S k → R k) where
+  waits-into : (w : Wait) → WaitsIn S w → WaitsIn R w
+  waits-into NoWait h = tt
+  waits-into (Sending q end word) h = into (queue q) h
+  waits-into (Receiving q end) h = into (queue q) h
+  waits-into (AtMailbox b end) h = into (mailbox b) h
+
+  placed-into : ((k : Key) → R k → S k) → (m : Program.Rows Row) → Placed S m → Placed R m
+  unfolding QueuedIn
+  placed-into back m p = record {
+    tasks = λ t h. waits-into (m (task t) .wait) (p .tasks t (back (task t) h));
+    messages = λ g h t. into (mailbox _) (p .messages g (back (message g) h) t);
+  }
+
+  call-into : (c : Call) → CallOf S c → CallOf R c
+  call-into c h = record { no-tick = h .no-tick; own-names = each-map (λ k g t. into k (g t)) (h .own-names) }
+
+-- The two carriers as owners.
+abbrev owners : Carrier → Carrier → Owners Who
+owners a b = record {
+  tasks = λ n. whose (a .tasks n) (b .tasks n);
+  queues = λ n. whose (a .queues n) (b .queues n);
+  mailboxes = λ n. whose (a .mailboxes n) (b .mailboxes n);
+  messages = λ n. whose (a .messages n) (b .messages n);
+}
+
+owner-is : (a b : Carrier) (k : Key) → owner (owners a b) k ≡ whose (owns a k) (owns b k)
+owner-is a b (task n) = refl
+owner-is a b (suspension n) = refl
+owner-is a b (queue n) = refl
+owner-is a b (mailbox n) = refl
+owner-is a b (message n) = refl
+
+pub isolation : Isolation
+isolation m linked a b apart placed-a placed-b xs ys own-a own-b =
+    two-of tell-who first second differ step m xs ys
+    (isolation-of-many Who tell-who m linked (owners a b) (twoLists tell-who first second xs ys)
+    (each-caller tell-who first second differ (λ i. Placed (OwnedBy (owners a b) i) (m .rows)) xs ys (placed-into in-a of-a (m .rows) placed-a) (placed-into in-b of-b (m .rows) placed-b))
+    (each-list tell-who first second differ (λ i. CallOf (OwnedBy (owners a b) i)) (each-map (call-into in-a) own-a) (each-map (call-into in-b) own-b)))
+  where
+    differ : first ≡ second → ⊥
+    differ e = let z : _≡_ {A = ℕ} 0 1 = cc in omega arith
+
+    in-a : (k : Key) → Own a k → OwnedBy (owners a b) first k
+    in-a k h = owner-is a b k ∙ is-first (owns a k) (owns b k) h
+
+    of-a : (k : Key) → OwnedBy (owners a b) first k → Own a k
+    of-a k h = of-first (owns a k) (owns b k) (sym (owner-is a b k) ∙ h)
+
+    in-b : (k : Key) → Own b k → OwnedBy (owners a b) second k
+    in-b k h = owner-is a b k ∙ is-second (owns a k) (owns b k) (apart k) h
+
+    of-b : (k : Key) → OwnedBy (owners a b) second k → Own b k
+    of-b k h = of-second (owns a k) (owns b k) (sym (owner-is a b k) ∙ h)

@@ -1,0 +1,144 @@
+-- Document 01, "Sending and receiving": calls 2 to 11, where no row of the error table applies.
+use mathlib.Core.Bool.{true, not}
+use mathlib.Core.List.{List, [], _∷_, _++_, tail, headD}
+use Prim.Native.Nat.{ℕ}
+use lib.ListN.{length}
+use Rattle.lists.specs.Lists.{empty, insertAt}
+use Rattle.rows.specs.Program.{return, get, put, if_then_else_, _>>=_, _>>_}
+use Rattle.model.specs.Rows.{task, queue, TaskRow, QueueRow, Environment, Effect, senders-by-priority, has-room, no-queue, with-words, with-senders, with-receivers}
+use Rattle.model.specs.Codes.{E-OK, E-DLT, finished, waits, done, gives, refused-at-step-7}
+use Rattle.model.specs.Calls.{Call, View, word-of, capacity-of}
+use Rattle.model.specs.Waits.{End, Never, Sending, Receiving, held-word, starting, ended, end-of}
+use Rattle.model.specs.WaitQueues.{priorities, place, release, end-waits}
+
+-- q is the queue that the call names and x its row; me and row are the caller and its row.
+module _ (q : ℕ) (x : QueueRow) where
+  -- A waiting receiver at the head gets the word, which isn't stored.
+  unfoldable pub deliver : ℕ → Effect
+  deliver word = do
+    put (queue q) (with-receivers (tail (x .receivers)) x)
+    release (headD (x .receivers) 0) E-OK word
+    done
+
+  -- If there is room, the word goes to the tail.
+  unfoldable pub store : ℕ → Effect
+  store word = do
+    put (queue q) (with-words (x .words ++ word ∷ []) x)
+    done
+
+  -- fsnd drops the oldest word and stores its own at the tail; waiting senders go on waiting.
+  unfoldable pub replace-oldest : ℕ → Effect
+  replace-oldest word = do
+    put (queue q) (with-words (tail (x .words) ++ word ∷ []) x)
+    done
+
+  -- The sender waits, by attribute 0 in order of arrival, by 1 by task priority and then by arrival; the word is kept with the task.
+  unfoldable pub wait-to-send : ℕ → TaskRow → ℕ → End → Effect
+  wait-to-send me row word end = do
+    keys ← priorities (x .senders)
+    let n = place (senders-by-priority (x .attribute)) (row .priority) keys
+    put (queue q) (with-senders (insertAt n me (x .senders)) x)
+    put (task me) (starting (Sending q end word) row)
+    return (waits n)
+
+  unfoldable pub send : ℕ → Effect → Effect
+  send word otherwise =
+      if not (empty (x .receivers)) then deliver word
+      else if has-room x then store word
+      else otherwise
+
+  -- With words stored and no sender waiting, a is the oldest.
+  unfoldable pub take-oldest : Effect
+  take-oldest = do
+    put (queue q) (with-words (tail (x .words)) x)
+    gives (headD (x .words) 0)
+
+  -- With words stored and a sender waiting: a is the oldest, then the head sender's word goes to the tail and that sender is released.
+  unfoldable pub take-oldest-and-refill : Effect
+  take-oldest-and-refill = do
+    let sender = headD (x .senders) 0
+    y ← get (task sender)
+    put (queue q) (with-senders (tail (x .senders)) (with-words (tail (x .words) ++ held-word (y .wait) ∷ []) x))
+    put (task sender) (ended E-OK 0 y)
+    gives (headD (x .words) 0)
+
+  -- With a sender waiting where no word is stored, which is at capacity 0: a is that sender's word and it is released.
+  unfoldable pub take-from-sender : Effect
+  take-from-sender = do
+    let sender = headD (x .senders) 0
+    y ← get (task sender)
+    put (queue q) (with-senders (tail (x .senders)) x)
+    put (task sender) (ended E-OK 0 y)
+    gives (held-word (y .wait))
+
+  -- Receivers always wait in order of arrival.
+  unfoldable pub wait-to-receive : ℕ → TaskRow → End → Effect
+  wait-to-receive me row end = do
+    put (queue q) (with-receivers (x .receivers ++ me ∷ []) x)
+    put (task me) (starting (Receiving q end) row)
+    return (waits (length (x .receivers)))
+
+  unfoldable pub receive : Effect → Effect
+  receive otherwise =
+      if not (empty (x .words)) then (if empty (x .senders) then take-oldest else take-oldest-and-refill)
+      else if not (empty (x .senders)) then take-from-sender
+      else otherwise
+
+module _ (e : Environment) (v : View) (c : Call) where
+  -- A call that waits does so until this end, the one with a tmout until the end that its tmout sets.
+  abbrev send-until : End → Effect
+  send-until end = send (c .object) (v .the-queue) (word-of c) (wait-to-send (c .object) (v .the-queue) (c .caller) (v .caller) (word-of c) end)
+
+  abbrev receive-until : End → Effect
+  receive-until end = receive (c .object) (v .the-queue) (wait-to-receive (c .object) (v .the-queue) (c .caller) (v .caller) end)
+
+  -- 2
+  abbrev pub cre-dtq : Effect
+  cre-dtq = do
+    put (queue (c .object)) (record { defined = true; attribute = c .attribute; capacity = capacity-of c; words = []; senders = []; receivers = [] })
+    done
+
+  -- 3: every waiter ends with E_DLT, stored words are gone.
+  abbrev pub del-dtq : Effect
+  del-dtq = do
+    end-waits (v .the-queue .senders) E-DLT
+    end-waits (v .the-queue .receivers) E-DLT
+    put (queue (c .object)) no-queue
+    done
+
+  -- 4
+  abbrev pub snd-dtq : Effect
+  snd-dtq = send-until Never
+
+  -- 5
+  abbrev pub psnd-dtq : Effect
+  psnd-dtq = send (c .object) (v .the-queue) (word-of c) refused-at-step-7
+
+  -- 6
+  abbrev pub tsnd-dtq : Effect
+  tsnd-dtq = send-until (end-of (e .counter) (c .tmout))
+
+  -- 7
+  abbrev pub fsnd-dtq : Effect
+  fsnd-dtq = send (c .object) (v .the-queue) (word-of c) (replace-oldest (c .object) (v .the-queue) (word-of c))
+
+  -- 8
+  abbrev pub rcv-dtq : Effect
+  rcv-dtq = receive-until Never
+
+  -- 9
+  abbrev pub prcv-dtq : Effect
+  prcv-dtq = receive (c .object) (v .the-queue) refused-at-step-7
+
+  -- 10
+  abbrev pub trcv-dtq : Effect
+  trcv-dtq = receive-until (end-of (e .counter) (c .tmout))
+
+  -- 11: a the head sender, b the head receiver, 0 for none, c the stored count.
+  abbrev pub ref-dtq : Effect
+  ref-dtq = return (finished E-OK (headD (v .the-queue .senders) 0) (headD (v .the-queue .receivers) 0) (length (v .the-queue .words)))
+
+-- Opens every definition of this file.
+unfoldable pub open-data-queues : Unit {0}
+unfolding deliver store replace-oldest wait-to-send send take-oldest take-oldest-and-refill take-from-sender wait-to-receive receive
+open-data-queues = tt

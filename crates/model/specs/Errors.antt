@@ -1,0 +1,169 @@
+-- Document 01, "Error numbers and their order": the table, row by row, and what a refusal is.
+use mathlib.Core.Bool.{Bool, true, false, not, _&&_, _||_, cond}
+use mathlib.Core.List.{List, [], _∷_}
+use Prim.Native.Nat.{ℕ}
+use lib.Dec.{eqb, leb, ltb}
+use lib.IntN.{ℤ, pos, negsuc}
+use lib.Signed.{ltZ}
+use Rattle.lists.specs.Lists.{oneOf, empty}
+use Rattle.model.specs.Sizes.{task-limit, capacity-limit, priority-limit, tmout-limit, within}
+use Rattle.model.specs.Rows.{task, queue, mailbox, message, valid, has-room, messages-by-priority}
+use Rattle.model.specs.Waits.{able}
+use Rattle.model.specs.Codes.{Code, E-OK, E-SYS, E-PAR, E-ID, E-CTX, E-ILUSE, E-OBJ, E-NOEXS, E-QOVR, E-TMOUT}
+use Rattle.model.specs.Calls.{Call, calls, names-task, names-queue, names-mailbox, names-message, message-of, capacity-of, task-priority-of, highest-of, message-priority-of, View}
+
+-- ── Step 0 ──
+
+unfoldable pub unknown : Call → Bool
+unknown c = ltb 23 (c .number)
+
+-- ── Step 1 ──
+
+unfoldable pub caller-unable : View → Call → Bool
+caller-unable v c =
+    not (eqb (c .caller) 0)
+    && (ltb task-limit (c .caller)
+    || not (v .caller .defined)
+    || not (able (v .caller .wait))
+    || v .caller-suspended)
+
+-- ── Step 2 ──
+
+unfoldable pub called-while-locked : Call → Bool
+called-while-locked c = c .locked && within 1 23 (c .number)
+
+unfoldable pub called-by-handler : Call → Bool
+called-by-handler c = eqb (c .caller) 0 && calls c (3 ∷ 4 ∷ 6 ∷ 8 ∷ 10 ∷ 13 ∷ 15 ∷ 17 ∷ [])
+
+-- sus_tsk naming the task that calls: never for caller 0.
+unfoldable pub suspends-itself : Call → Bool
+suspends-itself c = eqb (c .number) 20 && eqb (c .object) (c .caller) && not (eqb (c .caller) 0)
+
+unfoldable pub called-while-disabled : Call → Bool
+called-while-disabled c = c .disabled && (calls c (4 ∷ 6 ∷ 8 ∷ 10 ∷ 15 ∷ 17 ∷ []) || suspends-itself c)
+
+-- ── Step 3 ──
+
+-- Number 0 is refused as well.
+unfoldable pub number-outside : Call → Bool
+number-outside c =
+    names-task c && not (valid (task (c .object)))
+    || names-queue c && not (valid (queue (c .object)))
+    || names-mailbox c && not (valid (mailbox (c .object)))
+
+-- ── Step 4 ──
+
+unfoldable pub tmout-outside : Call → Bool
+tmout-outside c = calls c (6 ∷ 10 ∷ 17 ∷ []) && (ltZ (c .tmout) (negsuc 0) || ltZ (pos tmout-limit) (c .tmout))
+
+unfoldable pub attribute-outside : Call → Bool
+attribute-outside c = eqb (c .number) 2 && not (within 0 1 (c .attribute)) || eqb (c .number) 12 && not (within 0 3 (c .attribute))
+
+unfoldable pub capacity-outside : Call → Bool
+capacity-outside c = eqb (c .number) 2 && ltb capacity-limit (capacity-of c)
+
+unfoldable pub task-priority-outside : Call → Bool
+task-priority-outside c = eqb (c .number) 1 && not (within 1 priority-limit (task-priority-of c))
+
+unfoldable pub message-outside : Call → Bool
+message-outside c = names-message c && not (valid (message (message-of c)))
+
+unfoldable pub highest-outside : Call → Bool
+highest-outside c = eqb (c .number) 12 && messages-by-priority (c .attribute) && not (within 1 priority-limit (highest-of c))
+
+-- ── Step 5 ──
+
+unfoldable pub exists : View → Call → Bool
+exists v c =
+    names-task c && v .the-task .defined
+    || names-queue c && v .the-queue .defined
+    || names-mailbox c && v .the-mailbox .defined
+
+unfoldable pub missing : View → Call → Bool
+missing v c = not (calls c (1 ∷ 2 ∷ 12 ∷ [])) && not (exists v c)
+
+-- ── Steps 6a to 6d ──
+
+unfoldable pub message-priority-outside : View → Call → Bool
+message-priority-outside v c =
+    names-message c
+    && messages-by-priority (v .the-mailbox .attribute)
+    && not (within 1 (v .the-mailbox .highest) (message-priority-of c))
+
+unfoldable pub wrong-state : View → Call → Bool
+wrong-state v c =
+    calls c (1 ∷ 2 ∷ 12 ∷ []) && exists v c
+    || names-message c && not (eqb (v .the-message .queued-in) 0)
+    || eqb (c .number) 19 && able (v .the-task .wait)
+    || eqb (c .number) 21 && not (v .suspended)
+    || eqb (c .number) 23 && not (able (v .the-task .wait))
+
+unfoldable pub suspended-already : View → Call → Bool
+suspended-already v c = eqb (c .number) 20 && v .suspended
+
+-- Source 004 decides: a waiting receiver is served, whatever the capacity.
+unfoldable pub nothing-to-drop : View → Call → Bool
+nothing-to-drop v c = eqb (c .number) 7 && eqb (v .the-queue .capacity) 0 && empty (v .the-queue .receivers)
+
+-- ── Step 7 ──
+
+abbrev pub is-zero : ℤ → Bool
+is-zero (pos n) = eqb n 0
+is-zero (negsuc n) = false
+
+unfoldable pub polls : Call → Bool
+polls c = calls c (5 ∷ 9 ∷ 16 ∷ []) || calls c (6 ∷ 10 ∷ 17 ∷ []) && is-zero (c .tmout)
+
+unfoldable pub would-wait : View → Call → Bool
+would-wait v c =
+    within 4 6 (c .number) && empty (v .the-queue .receivers) && not (has-room (v .the-queue))
+    || within 8 10 (c .number) && empty (v .the-queue .words) && empty (v .the-queue .senders)
+    || within 15 17 (c .number) && empty (v .the-mailbox .messages)
+
+-- ── The table ──
+
+pub record ErrorRow : Type 0 where
+  pub code : Code
+  pub applies : Bool
+
+infix 66 _when_
+abbrev pub _when_ : Code → Bool → ErrorRow
+code when applies = record { code = code; applies = applies }
+
+-- `sound` says whether the record is sound (document 01, "A sound record"): a model, which isn't a record, always passes that row.
+unfoldable pub error-table : Bool → View → Call → List ErrorRow
+error-table sound v c =
+    (E-PAR when unknown c)  -- 0
+    ∷ (E-SYS when not sound)  -- 1
+    ∷ (E-SYS when caller-unable v c)
+    ∷ (E-CTX when (called-while-locked c || called-by-handler c || called-while-disabled c))  -- 2
+    ∷ (E-ID when number-outside c)  -- 3
+    ∷ (E-PAR when (tmout-outside c || attribute-outside c || capacity-outside c || task-priority-outside c || message-outside c || highest-outside c))  -- 4
+    ∷ (E-NOEXS when missing v c)  -- 5
+    ∷ (E-PAR when message-priority-outside v c)  -- 6a
+    ∷ (E-OBJ when wrong-state v c)  -- 6b
+    ∷ (E-QOVR when suspended-already v c)  -- 6c
+    ∷ (E-ILUSE when nothing-to-drop v c)  -- 6d
+    ∷ (E-TMOUT when (polls c && would-wait v c))  -- 7
+    ∷ []
+
+-- A call is refused where some row applies, with the code of the first that does. E_OK where none does is never looked at.
+-- (fetch hands out the code of an ended wait, which is no refusal: no row gives it.)
+unfoldable pub some-applies : List ErrorRow → Bool
+some-applies [] = false
+some-applies (row ∷ rows) = row .applies || some-applies rows
+
+unfoldable pub first-that-applies : List ErrorRow → Code
+first-that-applies [] = E-OK
+first-that-applies (row ∷ rows) = cond (row .applies) (row .code) (first-that-applies rows)
+
+unfoldable pub refused : Bool → View → Call → Bool
+refused sound v c = some-applies (error-table sound v c)
+
+unfoldable pub refusal : Bool → View → Call → Code
+refusal sound v c = first-that-applies (error-table sound v c)
+
+-- Opens every definition of this file.
+unfoldable pub open-errors : Unit {0}
+unfolding unknown caller-unable called-while-locked called-by-handler suspends-itself called-while-disabled number-outside tmout-outside attribute-outside capacity-outside task-priority-outside message-outside highest-outside exists missing message-priority-outside wrong-state suspended-already nothing-to-drop polls would-wait error-table some-applies first-that-applies refused refusal
+open-errors = tt

@@ -1,0 +1,14 @@
+pub mod Sizes
+pub mod Rows
+pub mod Codes
+pub mod Waits
+pub mod Calls
+pub mod Errors
+pub mod WaitQueues
+pub mod DataQueues
+pub mod Mailboxes
+pub mod Tasks
+pub mod Step
+pub mod SixteenRuns
+pub mod Isolation
+pub mod Open

@@ -1,0 +1,109 @@
+-- Document 01, "Mailboxes": calls 12 to 18, where no row of the error table applies.
+use mathlib.Core.Bool.{true, not, cond}
+use mathlib.Core.List.{List, [], _∷_, tail, headD}
+use Prim.Native.Nat.{ℕ}
+use Rattle.lists.specs.Lists.{empty, insertAt}
+use Rattle.rows.specs.Program.{return, get, put, if_then_else_, _>>=_, _>>_}
+use Rattle.model.specs.Rows.{task, mailbox, message, TaskRow, MailboxRow, Environment, Effect, waiters-by-priority, messages-by-priority, no-mailbox, free, with-waiters, with-messages}
+use Rattle.model.specs.Codes.{E-OK, E-DLT, finished, waits, done, gives, refused-at-step-7}
+use Rattle.model.specs.Calls.{Call, View, message-of, highest-of, message-priority-of}
+use Rattle.model.specs.Waits.{End, Never, AtMailbox, starting, end-of}
+use Rattle.model.specs.WaitQueues.{priorities, place, release, end-waits}
+
+-- The priorities kept with these messages, in order.
+unfoldable pub message-priorities : List ℕ → (List ℕ → Effect) → Effect
+message-priorities [] rest = rest []
+message-priorities (g ∷ gs) rest = do
+  x ← get (message g)
+  keys ← message-priorities gs
+  rest (x .priority ∷ keys)
+
+unfoldable pub free-messages : List ℕ → Effect → Effect
+free-messages [] rest = rest
+free-messages (g ∷ gs) rest = do
+  put (message g) free
+  free-messages gs
+  rest
+
+-- b is the mailbox that the call names and x its row; me and row are the caller and its row.
+module _ (b : ℕ) (x : MailboxRow) where
+  -- The message goes to the head waiter, and is then free.
+  unfoldable pub deliver-message : ℕ → Effect
+  deliver-message g = do
+    put (mailbox b) (with-waiters (tail (x .waiters)) x)
+    release (headD (x .waiters) 0) E-OK g
+    done
+
+  -- The message is queued; a is the number of messages that stay ahead of it. Without attribute 2, priorities are ignored and not kept.
+  unfoldable pub queue-message : ℕ → ℕ → Effect
+  queue-message g priority = do
+    keys ← message-priorities (x .messages)
+    let n = place (messages-by-priority (x .attribute)) priority keys
+    put (mailbox b) (with-messages (insertAt n g (x .messages)) x)
+    put (message g) (record { queued-in = b; priority = cond (messages-by-priority (x .attribute)) priority 0 })
+    gives n
+
+  -- The head message is given as a, and is then free again.
+  unfoldable pub take-message : Effect
+  take-message = do
+    put (mailbox b) (with-messages (tail (x .messages)) x)
+    put (message (headD (x .messages) 0)) free
+    gives (headD (x .messages) 0)
+
+  -- Attribute 1 or 3: waiters by task priority, equals by arrival; else by arrival.
+  unfoldable pub wait-for-message : ℕ → TaskRow → End → Effect
+  wait-for-message me row end = do
+    keys ← priorities (x .waiters)
+    let n = place (waiters-by-priority (x .attribute)) (row .priority) keys
+    put (mailbox b) (with-waiters (insertAt n me (x .waiters)) x)
+    put (task me) (starting (AtMailbox b end) row)
+    return (waits n)
+
+  unfoldable pub send-message : ℕ → ℕ → Effect
+  send-message g priority = if not (empty (x .waiters)) then deliver-message g else queue-message g priority
+
+  unfoldable pub receive-message : Effect → Effect
+  receive-message otherwise = if not (empty (x .messages)) then take-message else otherwise
+
+module _ (e : Environment) (v : View) (c : Call) where
+  abbrev receive-until : End → Effect
+  receive-until end = receive-message (c .object) (v .the-mailbox) (wait-for-message (c .object) (v .the-mailbox) (c .caller) (v .caller) end)
+
+  -- 12: the highest message priority is kept with attribute 2 or 3 alone.
+  abbrev pub cre-mbx : Effect
+  cre-mbx = do
+    put (mailbox (c .object)) (record { defined = true; attribute = c .attribute; highest = cond (messages-by-priority (c .attribute)) (highest-of c) 0; waiters = []; messages = [] })
+    done
+
+  -- 13: delete frees the queued messages and ends waits with E_DLT.
+  abbrev pub del-mbx : Effect
+  del-mbx = do
+    end-waits (v .the-mailbox .waiters) E-DLT
+    free-messages (v .the-mailbox .messages)
+    put (mailbox (c .object)) no-mailbox
+    done
+
+  -- 14
+  abbrev pub snd-mbx : Effect
+  snd-mbx = send-message (c .object) (v .the-mailbox) (message-of c) (message-priority-of c)
+
+  -- 15
+  abbrev pub rcv-mbx : Effect
+  rcv-mbx = receive-until Never
+
+  -- 16
+  abbrev pub prcv-mbx : Effect
+  prcv-mbx = receive-message (c .object) (v .the-mailbox) refused-at-step-7
+
+  -- 17
+  abbrev pub trcv-mbx : Effect
+  trcv-mbx = receive-until (end-of (e .counter) (c .tmout))
+
+  -- 18: a the head waiter, b the head message.
+  abbrev pub ref-mbx : Effect
+  ref-mbx = return (finished E-OK (headD (v .the-mailbox .waiters) 0) (headD (v .the-mailbox .messages) 0) 0)
+
+-- Opens every definition of this file.
+unfoldable pub open-mailboxes : Unit {0}
+unfolding message-priorities free-messages deliver-message queue-message take-message wait-for-message send-message receive-message
+open-mailboxes = tt

@@ -1,0 +1,53 @@
+-- A call from its number to its answer, and the single-call entry, where number 0 is the tick.
+use mathlib.Core.Bool.{true, cond}
+use mathlib.Core.List.{List, [], _∷_}
+use Prim.Native.Nat.{ℕ}
+use lib.Dec.{eqb}
+use lib.ListN.{getD}
+use Rattle.rows.specs.Program.{Result, if_then_else_, stepOf}
+use Rattle.model.specs.Rows.{tell, Environment, Model, Effect}
+use Rattle.model.specs.Codes.{E-PAR, refuse}
+use Rattle.model.specs.Calls.{Call, View, look-at}
+use Rattle.model.specs.Errors.{refused, refusal}
+use Rattle.model.specs.DataQueues.{cre-dtq, del-dtq, snd-dtq, psnd-dtq, tsnd-dtq, fsnd-dtq, rcv-dtq, prcv-dtq, trcv-dtq, ref-dtq}
+use Rattle.model.specs.Mailboxes.{cre-mbx, del-mbx, snd-mbx, rcv-mbx, prcv-mbx, trcv-mbx, ref-mbx}
+use Rattle.model.specs.Tasks.{define-task, rel-wai, sus-tsk, rsm-tsk, look, fetch, tick}
+use Rattle.model.specs.declared.Answer.{Answer}
+
+-- No call: number 0 is the tick, which has no context, and other numbers are unknown.
+abbrev pub no-call : Environment → View → Call → Effect
+no-call e v c = refuse E-PAR
+
+-- The calls, by number.
+unfoldable pub effects : List (Environment → View → Call → Effect)
+effects =
+    no-call  -- 0
+    ∷ define-task  -- 1
+    ∷ cre-dtq ∷ del-dtq  -- 2, 3
+    ∷ snd-dtq ∷ psnd-dtq ∷ tsnd-dtq ∷ fsnd-dtq  -- 4, 5, 6, 7
+    ∷ rcv-dtq ∷ prcv-dtq ∷ trcv-dtq ∷ ref-dtq  -- 8, 9, 10, 11
+    ∷ cre-mbx ∷ del-mbx  -- 12, 13
+    ∷ snd-mbx  -- 14
+    ∷ rcv-mbx ∷ prcv-mbx ∷ trcv-mbx ∷ ref-mbx  -- 15, 16, 17, 18
+    ∷ rel-wai ∷ sus-tsk ∷ rsm-tsk  -- 19, 20, 21
+    ∷ look ∷ fetch  -- 22, 23
+    ∷ []
+
+unfoldable pub effect : Environment → View → Call → Effect
+effect e v c = getD effects (c .number) no-call e v c
+
+-- A call looks at what it names, is refused where the error table says so, and else has its effect.
+unfoldable pub program : Environment → Call → Effect
+program e c = look-at c λ v. if refused true v c then refuse (refusal true v c) else effect e v c
+
+unfoldable pub call : Model → Call → Result Model Answer
+call m c = stepOf tell program m c
+
+-- One call, or the tick.
+unfoldable pub step : Model → Call → Result Model Answer
+step m c = cond (eqb (c .number) 0) (tick m) (call m c)
+
+-- Opens every definition of this file.
+unfoldable pub open-step : Unit {0}
+unfolding effects effect program call step
+open-step = tt

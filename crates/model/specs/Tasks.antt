@@ -1,0 +1,65 @@
+-- Document 01, "Task states and ticks": calls 1 and 19 to 23, where no row of the error table applies, and the tick.
+use mathlib.Core.Bool.{true, false, cond}
+use mathlib.Core.List.{List, [], _∷_}
+use Prim.Native.Nat.{ℕ, suc, _+_, _%_}
+use Rattle.lists.specs.Lists.{ascending}
+use Rattle.rows.specs.Program.{Result, return, get, put, if_then_else_, run, _>>=_, _>>_}
+use Rattle.model.specs.Sizes.{task-limit, counter-span}
+use Rattle.model.specs.Rows.{task, suspension, tell, Environment, Model, Effect}
+use Rattle.model.specs.Codes.{E-OK, E-RLWAI, E-TMOUT, finished, done, gives}
+use Rattle.model.specs.Calls.{Call, View, task-priority-of}
+use Rattle.model.specs.Waits.{NoWait, wait-number, wait-object, wait-end, due}
+use Rattle.model.specs.WaitQueues.{end-wait}
+use Rattle.model.specs.declared.Answer.{Answer}
+
+module _ (e : Environment) (v : View) (c : Call) where
+  -- 1: a new task is able and not suspended, its stored pair 0 and 0.
+  abbrev pub define-task : Effect
+  define-task = do
+    put (task (c .object)) (record { defined = true; priority = task-priority-of c; wait = NoWait; code = E-OK; word = 0 })
+    put (suspension (c .object)) false
+    done
+
+  -- 19
+  abbrev pub rel-wai : Effect
+  rel-wai = do
+    end-wait (c .object) E-RLWAI
+    done
+
+  -- 20, 21: suspended is kept beside the wait, which goes on.
+  abbrev pub sus-tsk : Effect
+  sus-tsk = do
+    put (suspension (c .object)) true
+    done
+
+  abbrev pub rsm-tsk : Effect
+  rsm-tsk = do
+    put (suspension (c .object)) false
+    done
+
+  -- 22. "Look" is document 01's word: a the wait's number, b the object, c 1 if suspended.
+  abbrev pub look : Effect
+  look = return (finished E-OK (wait-number (v .the-task .wait)) (wait-object (v .the-task .wait)) (cond (v .suspended) 1 0))
+
+  -- 23. "Fetch" is document 01's word: the stored pair as code and a.
+  abbrev pub fetch : Effect
+  fetch = return (finished (v .the-task .code) (v .the-task .word) 0 0)
+
+-- Of these tasks, each whose end tick the counter has come to is ended, in turn; a is how many, n of them before.
+unfoldable pub expire : ℕ → List ℕ → ℕ → Effect
+expire counter [] n = gives n
+expire counter (t ∷ ts) n = do
+  x ← get (task t)
+  if due counter (wait-end (x .wait)) then end-wait t E-TMOUT (expire counter ts (suc n)) else expire counter ts n
+
+-- 0: the counter goes on by one, and waits end in ascending task number.
+unfoldable pub tick : Model → Result Model Answer
+tick m =
+    let counter = (m .environment .counter + 1) % counter-span in
+    let o = run tell (expire counter (ascending 1 task-limit) 0) (m .rows) in
+    record { state = record { environment = record { counter = counter }; rows = o .state }; answer = o .answer }
+
+-- Opens every definition of this file.
+unfoldable pub open-tasks : Unit {0}
+unfolding expire tick
+open-tasks = tt

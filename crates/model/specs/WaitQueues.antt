@@ -1,0 +1,65 @@
+-- How tasks get into wait queues and out of them: what several calls share.
+use mathlib.Core.Bool.{Bool, cond}
+use mathlib.Core.List.{List, [], _∷_}
+use Prim.Native.Nat.{ℕ}
+use lib.ListN.{length}
+use Rattle.lists.specs.Lists.{without, passed}
+use Rattle.rows.specs.Program.{get, put, _>>=_, _>>_}
+use Rattle.model.specs.Rows.{task, queue, mailbox, TaskRow, QueueRow, MailboxRow, Effect, with-senders, with-receivers, with-waiters}
+use Rattle.model.specs.Codes.{Code}
+use Rattle.model.specs.Waits.{Wait, NoWait, Sending, Receiving, AtMailbox, ended}
+
+-- The priorities of these tasks, in order.
+unfoldable pub priorities : List ℕ → (List ℕ → Effect) → Effect
+priorities [] rest = rest []
+priorities (t ∷ ts) rest = do
+  x ← get (task t)
+  keys ← priorities ts
+  rest (x .priority ∷ keys)
+
+-- "Place" is document 01's word: how many stay ahead. By priority, those of equal or smaller number, which came before; else all.
+unfoldable pub place : Bool → ℕ → List ℕ → ℕ
+place by-priority priority keys = cond by-priority (passed priority keys) (length keys)
+
+-- A task that was at the head of a wait queue, and is out of it: its wait ends.
+unfoldable pub release : ℕ → Code → ℕ → Effect → Effect
+release t code word rest = do
+  x ← get (task t)
+  put (task t) (ended code word x)
+  rest
+
+-- The task is taken out of the wait queue that its wait names; a sender's word goes with it, since it is kept with the task.
+unfoldable pub take-out : ℕ → Wait → Effect → Effect
+take-out t NoWait rest = rest
+take-out t (Sending q end word) rest = do
+  x ← get (queue q)
+  put (queue q) (with-senders (without t (x .senders)) x)
+  rest
+take-out t (Receiving q end) rest = do
+  x ← get (queue q)
+  put (queue q) (with-receivers (without t (x .receivers)) x)
+  rest
+take-out t (AtMailbox b end) rest = do
+  x ← get (mailbox b)
+  put (mailbox b) (with-waiters (without t (x .waiters)) x)
+  rest
+
+-- A wait ends wherever the task stands: with no word of its own.
+unfoldable pub end-wait : ℕ → Code → Effect → Effect
+end-wait t code rest = do
+  x ← get (task t)
+  take-out t (x .wait)
+  put (task t) (ended code 0 x)
+  rest
+
+unfoldable pub end-waits : List ℕ → Code → Effect → Effect
+end-waits [] code rest = rest
+end-waits (t ∷ ts) code rest = do
+  end-wait t code
+  end-waits ts code
+  rest
+
+-- Opens every definition of this file.
+unfoldable pub open-wait-queues : Unit {0}
+unfolding priorities place release take-out end-wait end-waits
+open-wait-queues = tt

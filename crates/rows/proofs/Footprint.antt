@@ -1,0 +1,75 @@
+-- A program within a set of rows leaves the rows outside alone and goes by nothing outside: by induction on programs.
+use mathlib.Core.Path.{_≡_, refl, sym, _∙_, subst}
+use mathlib.Core.Bool.{Bool, true, false, not}
+use lib.Dec.{T}
+use Rattle.rows.specs.Program.{Program, return, get, put, if_then_else_, Result, Rows, update, run}
+use Rattle.rows.proofs.Update.{update-cases, update-other, update-agree}
+
+-- `Refs S k v`: whatever the row v at key k names lies in S.
+-- A program is within S where it touches rows of S alone, and writes no row that names one outside; of a row that it reads it knows the same.
+module _ {Key : Type 0} {Row : Key → Type 0} (Refs : (Key → Type 0) → (k : Key) → Row k → Type 0) (S : Key → Type 0) where
+  unfoldable pub Within : {A : Type 0} → Program Key Row A → Type 0
+  Within (return a) = Unit
+  Within (get k f) = S k × ((v : Row k) → Refs S k v → Within (f v))
+  Within (put k v p) = S k × Refs S k v × Within p
+  Within (if b then p else q) = (T b → Within p) × (T (not b) → Within q)
+
+  -- The rows of S name nothing outside S.
+  abbrev pub Closed : Rows Row → Type 0
+  Closed m = (k : Key) → S k → Refs S k (m k)
+
+  module _ {A : Type 0} where
+    pub in-return : (a : A) → Within (return a)
+    unfolding Within
+    in-return a = tt
+
+    pub in-get : (k : Key) (f : Row k → Program Key Row A) → S k → ((v : Row k) → Refs S k v → Within (f v)) → Within (get k f)
+    unfolding Within
+    in-get k f s h = (s, h)
+
+    pub in-put : (k : Key) (v : Row k) (p : Program Key Row A) → S k → Refs S k v → Within p → Within (put k v p)
+    unfolding Within
+    in-put k v p s r h = (s, r, h)
+
+    pub in-if : (b : Bool) (p q : Program Key Row A) → (T b → Within p) → (T (not b) → Within q) → Within (if b then p else q)
+    unfolding Within
+    in-if b p q g h = (g, h)
+
+module _ {Key : Type 0} {Row : Key → Type 0} (tell : Discrete Key) (Refs : (Key → Type 0) → (k : Key) → Row k → Type 0) (S : Key → Type 0) where
+  update-closed : (k : Key) (v : Row k) (m : Rows Row) → Refs S k v → Closed Refs S m → Closed Refs S (update tell k v m)
+  update-closed k v m r c j = update-cases tell (λ i w. S i → Refs S i w) k v m (λ s. r) j (λ n. c j)
+
+  module _ {A : Type 0} where
+    pub keeps-closed : (p : Program Key Row A) (m : Rows Row) → Within Refs S p → Closed Refs S m → Closed Refs S (run tell p m .state)
+    unfolding run Within
+    keeps-closed (return a) m w c = c
+    keeps-closed (get k f) m w c = keeps-closed (f (m k)) m (w .1 (m k) (c k (w .0))) c
+    keeps-closed (put k v p) m w c = keeps-closed p (update tell k v m) (w .2) (update-closed k v m (w .1) c)
+    keeps-closed (if true then p else q) m w c = keeps-closed p m (w .0 tt) c
+    keeps-closed (if false then p else q) m w c = keeps-closed q m (w .1 tt) c
+
+    -- A row outside S is left as it was.
+    pub outside : (p : Program Key Row A) (m : Rows Row) → Within Refs S p → Closed Refs S m → (j : Key) → (S j → ⊥) → run tell p m .state j ≡ m j
+    unfolding run Within
+    outside (return a) m w c j n = refl
+    outside (get k f) m w c j n = outside (f (m k)) m (w .1 (m k) (c k (w .0))) c j n
+    outside (put k v p) m w c j n =
+        outside p (update tell k v m) (w .2) (update-closed k v m (w .1) c) j n
+        ∙ update-other tell k v m j (λ e. n (subst S (sym e) (w .0)))
+    outside (if true then p else q) m w c j n = outside p m (w .0 tt) c j n
+    outside (if false then p else q) m w c j n = outside q m (w .1 tt) c j n
+
+    -- From tables that agree on S: the same answer, and tables that agree on S.
+    pub confined : (p : Program Key Row A) (m n : Rows Row) → Within Refs S p → Closed Refs S m → ((k : Key) → S k → m k ≡ n k)
+        → (run tell p m .answer ≡ run tell p n .answer) × ((k : Key) → S k → run tell p m .state k ≡ run tell p n .state k)
+    unfolding run Within
+    confined (return a) m n w c e = (refl, e)
+    confined (get k f) m n w c e =
+        subst
+        (λ (v : Row k). (run tell (f (m k)) m .answer ≡ run tell (f v) n .answer) × ((j : Key) → S j → run tell (f (m k)) m .state j ≡ run tell (f v) n .state j))
+        (e k (w .0))
+        (confined (f (m k)) m n (w .1 (m k) (c k (w .0))) c e)
+    confined (put k v p) m n w c e =
+        confined p (update tell k v m) (update tell k v n) (w .2) (update-closed k v m (w .1) c) (λ j s. update-agree tell k v m n j (e j s))
+    confined (if true then p else q) m n w c e = confined p m n (w .0 tt) c e
+    confined (if false then p else q) m n w c e = confined q m n (w .1 tt) c e

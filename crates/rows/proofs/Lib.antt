@@ -1,0 +1,5 @@
+pub mod Update
+pub mod Footprint
+pub mod Local
+pub mod Owned
+pub mod Two

@@ -1,0 +1,51 @@
+-- Programs over rows. A state is a table of rows, each found by its key; a program reads rows, writes rows, goes by tests and returns an answer.
+use mathlib.Core.Path.{_≡_, subst⁻¹}
+use mathlib.Core.Bool.{Bool, true, false}
+
+infix 5 if_then_else_
+pub data Program (Key : Type 0) (Row : Key → Type 0) (A : Type 0) : Type 0 where
+  return : A → Program Key Row A
+  get : (k : Key) → (Row k → Program Key Row A) → Program Key Row A
+  put : (k : Key) → Row k → Program Key Row A → Program Key Row A
+  if_then_else_ : Bool → Program Key Row A → Program Key Row A → Program Key Row A
+
+-- `do` blocks: `x ← get k` hands the row on to the lines below it, and `put k v` goes before them.
+module _ {Key : Type 0} {Row : Key → Type 0} {A : Type 0} where
+  abbrev pub _>>=_ : {X : Type 0} → ((X → Program Key Row A) → Program Key Row A) → (X → Program Key Row A) → Program Key Row A
+  _>>=_ action rest = action rest
+
+  abbrev pub _>>_ : (Program Key Row A → Program Key Row A) → Program Key Row A → Program Key Row A
+  _>>_ action rest = action rest
+
+-- The state that a step leaves, and its answer.
+pub record Result (S A : Type 0) : Type 0 where
+  pub state : S
+  pub answer : A
+
+-- A table of rows.
+abbrev pub Rows : {Key : Type 0} → (Key → Type 0) → Type 0
+Rows {Key} Row = (k : Key) → Row k
+
+module _ {Key : Type 0} {Row : Key → Type 0} (tell : Discrete Key) where
+  -- The table with row k changed to v.
+  unfoldable pub update : (k : Key) → Row k → Rows Row → Rows Row
+  update k v m j = elim (tell j k) [ yes e ↦ subst⁻¹ Row e v | no n ↦ m j ]
+
+  unfoldable pub run : {A : Type 0} → Program Key Row A → Rows Row → Result (Rows Row) A
+  run (return a) m = record { state = m; answer = a }
+  run (get k f) m = run (f (m k)) m
+  run (put k v p) m = run p (update k v m)
+  run (if true then p else q) m = run p m
+  run (if false then p else q) m = run q m
+
+-- A state: what calls read and none writes, and the rows.
+pub record State (E : Type 0) {Key : Type 0} (Row : Key → Type 0) : Type 0 where
+  pub environment : E
+  pub rows : Rows Row
+
+-- A call as a step: its program in that environment, run on the rows.
+module _ {Key E R A : Type 0} {Row : Key → Type 0} (tell : Discrete Key) (program : E → R → Program Key Row A) where
+  unfoldable pub stepOf : State E Row → R → Result (State E Row) A
+  stepOf s r =
+      let o = run tell (program (s .environment) r) (s .rows) in
+      record { state = record { environment = s .environment; rows = o .state }; answer = o .answer }
