@@ -1,2 +1,4 @@
 pub mod Each
 pub mod Positions
+pub mod Places
+pub mod Samples

@@ -1,9 +1,9 @@
 -- A table's rule proved once for each entry holds at each number: by induction on the table.
 use mathlib.Core.Path.{_≡_, refl, _∙_, subst}
 use mathlib.Core.List.{List, [], _∷_}
-use Prim.Native.Nat.{ℕ, zero, suc, _+_}
+use Prim.Native.Nat.{ℕ, zero, suc, _+_, _≤_, zero-le, suc-le-suc}
 use native.Mathlib.Omega.{arith}
-use lib.ListN.{getD}
+use lib.ListN.{length, getD}
 
 up : ℕ → ℕ → ℕ
 up zero n = n
@@ -20,13 +20,17 @@ module _ {X : Type 0} (Q : ℕ → X → Type 0) where
   EachFrom n [] = Unit
   EachFrom n (x ∷ xs) = Q n x × EachFrom (suc n) xs
 
-  -- Of d, which is read beyond the table, Q holds with any number.
-  module _ (d : X) (beyond : (n : ℕ) → Q n d) where
-    entry : (n : ℕ) (l : List X) → EachFrom n l → (k : ℕ) → Q (up k n) (getD l k d)
-    unfolding up EachFrom
-    entry n [] e k = beyond (up k n)
-    entry n (x ∷ xs) e zero = e .0
-    entry n (x ∷ xs) e (suc k) = entry (suc n) xs (e .1) k
+  entry : (d : X) (n : ℕ) (l : List X) → ((k : ℕ) → length l ≤ k → Q (up k n) d) → EachFrom n l → (k : ℕ) → Q (up k n) (getD l k d)
+  unfolding up EachFrom
+  entry d n [] beyond e k = beyond k zero-le
+  entry d n (x ∷ xs) beyond e zero = e .0
+  entry d n (x ∷ xs) beyond e (suc k) = entry d (suc n) xs (λ j h. beyond (suc j) (suc-le-suc h)) (e .1) k
 
-    pub at-number : (l : List X) → EachFrom 0 l → (k : ℕ) → Q k (getD l k d)
-    at-number l e k = subst (λ n. Q n (getD l k d)) (up-is k 0 ∙ omega arith) (entry 0 l e k)
+  -- d is what is read beyond the table.
+  pub at-number : (d : X) (l : List X) → ((k : ℕ) → length l ≤ k → Q k d) → EachFrom 0 l → (k : ℕ) → Q k (getD l k d)
+  at-number d l beyond e k = subst (λ n. Q n (getD l k d)) (at k) (entry d 0 l (λ j h. subst (λ n. Q n d) (sym-at j) (beyond j h)) e k)
+    where
+      at : (j : ℕ) → up j 0 ≡ j
+      at j = up-is j 0 ∙ omega arith
+      sym-at : (j : ℕ) → j ≡ up j 0
+      sym-at j = let h = at j in omega arith

@@ -20,6 +20,7 @@ use Rattle.model.specs.Mailboxes.{message-priorities, free-messages, del
 use Rattle.model.specs.Errors.{refused, refusal}
 use Rattle.model.specs.Step.{effects, effect, no-call, program}
 use Rattle.model.specs.Isolation.{WaitsIn, QueuedIn}
+use Rattle.model.proofs.Step.{numbered}
 use Rattle.model.proofs.Accepted.{Accepted, accepted}
 
 -- What a row names lies in S: the object that a task waits at, what stands in an object, the mailbox of a message.
@@ -171,9 +172,6 @@ module _ (S : Key → Type 0) where
     waiters : Tasks (v .the-mailbox .waiters)
     messages : Messages (v .the-mailbox .messages)
 
-  abbrev numbered : ℕ → Call → Call
-  numbered n c = record { number = n; caller = c .caller; locked = c .locked; disabled = c .disabled; object = c .object; value = c .value; tmout = c .tmout; attribute = c .attribute }
-
   -- Call n has the effect f, and that is within S for an accepted call with rows of S in view.
   abbrev InFor : ℕ → (Environment → View → Call → Effect) → Type 0
   InFor n f = (e : Environment) (v : View) (c : Call) → Shown v → Accepted S (numbered n c) → In (f e v (numbered n c))
@@ -258,7 +256,7 @@ module _ (S : Key → Type 0) where
 
   in-effect : (e : Environment) (v : View) (c : Call) → Shown v → Accepted S c → In (effect e v c)
   unfolding effect
-  in-effect e v c r a = at-number InFor no-call (λ n e v c r a. in-return Refs S _) effects in-effects (c .number) e v c r a
+  in-effect e v c r a = at-number InFor no-call effects (λ n h e v c r a. in-return Refs S _) in-effects (c .number) e v c r a
 
   -- ── A whole call ──
 

@@ -8,7 +8,6 @@ use lib.Dec.{T, eqb}
 use Rattle.lists.specs.Lists.{Each, none, both}
 use Rattle.lists.proofs.Each.{each-map}
 use Rattle.rows.specs.Program as Program
-use Rattle.rows.specs.Program.{stepOf}
 use Rattle.rows.specs.Merge.{Separate}
 use Rattle.rows.specs.Merges.{SeparateAll}
 use Rattle.rows.proofs.Footprint.{Closed}
@@ -17,9 +16,10 @@ use Rattle.rows.proofs.Two.{twoLists, each-list, each-caller, two-of}
 use Rattle.model.specs.Rows.{Key, task, suspension, queue, mailbox, message, tell, valid, Row, Model}
 use Rattle.model.specs.Calls.{Call, names}
 use Rattle.model.specs.Waits.{Wait, NoWait, Sending, Receiving, AtMailbox}
-use Rattle.model.specs.Step.{program, call, step}
+use Rattle.model.specs.Step.{program, step}
 use Rattle.model.specs.Isolation.{WaitsAt, QueuedAt, Linked, WaitsIn, QueuedIn, Placed, CallOf, Carrier, owns, Own, Disjoint, Isolation, Owners, owner, OwnedBy, IsolationOfMany}
 use Rattle.model.proofs.Tests.{cond-no, cond-both}
+use Rattle.model.proofs.Step.{step-call}
 use Rattle.model.proofs.Footprints.{Refs, in-program}
 
 module _ {I : Type 0} (o : Owners I) where
@@ -86,11 +86,6 @@ module _ {I : Type 0} (o : Owners I) where
   part-own m i p (message n) e = cond-both (eqb (m (message n) .queued-in) 0) _ _ e (p .messages n e)
 
 -- ── Any number of carriers ──
-
--- A call that is no tick is its program's step.
-step-call : (m : Model) (c : Call) → T (not (eqb (c .number) 0)) → step m c ≡ stepOf tell program m c
-unfolding step call
-step-call m c t = cond-no (eqb (c .number) 0) _ _ t
 
 -- What holds of an owner that has calls holds beside each of its calls.
 beside-each : {X P : Type 0} {Q : X → Type 0} (l : List X) → ((l ≡ [] → ⊥) → P) → Each Q l → Each (λ x. P × Q x) l

@@ -41,3 +41,11 @@ cond-no false x y t = refl
 pub cond-both : {X : Type 0} {z : X} (b : Bool) (x y : X) → x ≡ z → (T (not b) → y ≡ z) → cond b x y ≡ z
 cond-both true x y e h = e
 cond-both false x y e h = h tt
+
+pub or-left : (a b : Bool) → T a → T (a || b)
+or-left true b t = tt
+or-left false b t = absurd t
+
+pub and-right : (a b : Bool) → T (a && b) → T b
+and-right true b t = t
+and-right false b t = absurd t

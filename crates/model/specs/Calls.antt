@@ -4,6 +4,7 @@ use mathlib.Core.List.{List, [], _∷_}
 use Prim.Native.Nat.{ℕ}
 use lib.Dec.{eqb}
 use Rattle.lists.specs.Lists.{oneOf}
+use Rattle.rows.specs.Program as Program
 use Rattle.rows.specs.Program.{get, if_then_else_, _>>=_}
 use Rattle.model.specs.Sizes.{within}
 use Rattle.model.specs.Rows.{Key, task, suspension, queue, mailbox, message, valid, Row, TaskRow, QueueRow, MailboxRow, MessageRow, Effect, nothing}
@@ -74,6 +75,20 @@ pub record View : Type 0 where
   pub the-mailbox : MailboxRow
   pub the-message : MessageRow
 
+abbrev pub shown : Program.Rows Row → (k : Key) → Row k
+shown m k = cond (valid k) (m k) (nothing k)
+
+unfoldable pub view-of : Program.Rows Row → Call → View
+view-of m c = record {
+  caller = shown m (task (c .caller));
+  caller-suspended = shown m (suspension (c .caller));
+  the-task = shown m (task (task-named c));
+  suspended = shown m (suspension (task-named c));
+  the-queue = shown m (queue (queue-named c));
+  the-mailbox = shown m (mailbox (mailbox-named c));
+  the-message = shown m (message (message-named c)) }
+
+-- The same as a program, so that what a call reads is part of what it does.
 unfoldable pub seen : (k : Key) → (Row k → Effect) → Effect
 seen k rest = if valid k then get k rest else rest (nothing k)
 

@@ -6,7 +6,7 @@ use lib.Dec.{eqb, leb, ltb}
 use lib.IntN.{ℤ, pos, negsuc}
 use lib.Signed.{ltZ}
 use Rattle.lists.specs.Lists.{oneOf, empty}
-use Rattle.model.specs.Sizes.{task-limit, capacity-limit, priority-limit, tmout-limit, within}
+use Rattle.model.specs.Sizes.{call-limit, task-limit, capacity-limit, priority-limit, tmout-limit, within}
 use Rattle.model.specs.Rows.{task, queue, mailbox, message, valid, has-room, messages-by-priority}
 use Rattle.model.specs.Waits.{able}
 use Rattle.model.specs.Codes.{Code, E-OK, E-SYS, E-PAR, E-ID, E-CTX, E-ILUSE, E-OBJ, E-NOEXS, E-QOVR, E-TMOUT}
@@ -14,8 +14,9 @@ use Rattle.model.specs.Calls.{Call, calls, names-task, names-queue, name
 
 -- ── Step 0 ──
 
+-- Number 0 is the tick, which goes past this table (`step`); it comes here only in a table of calls (document 02, item 2), where it is unknown too.
 unfoldable pub unknown : Call → Bool
-unknown c = ltb 23 (c .number)
+unknown c = not (within 1 call-limit (c .number))
 
 -- ── Step 1 ──
 
@@ -30,7 +31,7 @@ caller-unable v c =
 -- ── Step 2 ──
 
 unfoldable pub called-while-locked : Call → Bool
-called-while-locked c = c .locked && within 1 23 (c .number)
+called-while-locked c = c .locked && within 1 call-limit (c .number)
 
 unfoldable pub called-by-handler : Call → Bool
 called-by-handler c = eqb (c .caller) 0 && calls c (3 ∷ 4 ∷ 6 ∷ 8 ∷ 10 ∷ 13 ∷ 15 ∷ 17 ∷ [])

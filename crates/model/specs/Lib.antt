@@ -9,6 +9,7 @@ pub mod DataQueues
 pub mod Mailboxes
 pub mod Tasks
 pub mod Step
+pub mod Refusals
 pub mod SixteenRuns
 pub mod Isolation
 pub mod Open

@@ -3,6 +3,10 @@ use mathlib.Core.Bool.{Bool, _&&_}
 use Prim.Native.Nat.{ℕ}
 use lib.Dec.{leb}
 
+-- Calls 1 to 23; number 0 is the tick.
+abbrev pub call-limit : ℕ
+call-limit = 23
+
 -- Tasks 1 to 32, data queues 1 to 16, mailboxes 1 to 16, messages 1 to 64.
 abbrev pub task-limit : ℕ
 task-limit = 32

@@ -1,3 +1,4 @@
+pub mod Run
 pub mod Update
 pub mod Footprint
 pub mod Local
