@@ -1,10 +1,10 @@
 -- What holds of every element of a list holds of every element of the lists made from it: by induction on the evidence.
 use mathlib.Core.Bool.{not}
-use mathlib.Core.List.{List, [], _∷_, _++_, tail, headD}
+use mathlib.Core.List.{List, _++_, tail, headD}
 use Prim.Native.Nat.{ℕ, zero, suc}
 use lib.Dec.{T}
 use lib.ListN.{take, drop}
-use Rattle.lists.specs.Lists.{Each, none, both, empty, insertAt, removeAt, without}
+use Rattle.lists.specs.Lists.{Each, none, both, empty, insert-at, remove-at, without}
 
 module _ {X : Type 0} {P : X → Type 0} where
   pub each-tail : {l : List X} → Each P l → Each P (tail l)
@@ -30,12 +30,12 @@ module _ {X : Type 0} {P : X → Type 0} where
   each-drop (suc n) none = none
   each-drop (suc n) (both p e) = each-drop n e
 
-  pub each-insert : (n : ℕ) (x : X) {l : List X} → P x → Each P l → Each P (insertAt n x l)
-  unfolding insertAt
+  pub each-insert : (n : ℕ) (x : X) {l : List X} → P x → Each P l → Each P (insert-at n x l)
+  unfolding insert-at
   each-insert n x p e = each-append (each-take n e) (both p (each-drop n e))
 
-  pub each-remove : (n : ℕ) {l : List X} → Each P l → Each P (removeAt n l)
-  unfolding removeAt
+  pub each-remove : (n : ℕ) {l : List X} → Each P l → Each P (remove-at n l)
+  unfolding remove-at
   each-remove n e = each-append (each-take n e) (each-drop (suc n) e)
 
 pub each-without : {P : ℕ → Type 0} (n : ℕ) {l : List ℕ} → Each P l → Each P (without n l)

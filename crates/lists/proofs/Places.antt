@@ -1,12 +1,12 @@
 -- What the places of a queue are: by induction on the list.
 use mathlib.Core.Path.{_≡_, refl, ap}
 use mathlib.Core.Bool.{Bool, true, false, not, cond}
-use mathlib.Core.List.{List, [], _∷_, _++_}
-use Prim.Native.Nat.{ℕ, zero, suc, _≤_, _<_, suc-le-suc, zero-le}
+use mathlib.Core.List.{List, [], _∷_}
+use Prim.Native.Nat.{ℕ, zero, suc, _≤_, _<_}
 use native.Mathlib.Nat.{le-of-suc-le-suc, not-suc-le-zero}
 use lib.Dec.{T, leb, eqb, leb→le, nleb→lt, eqb→eq}
-use lib.ListN.{length, getD, take, drop}
-use Rattle.lists.specs.Lists.{Each, none, both, insertAt, removeAt, ahead, without, passed}
+use lib.ListN.{length, getD, take}
+use Rattle.lists.specs.Lists.{Each, none, both, insert-at, remove-at, ahead, passed}
 
 -- A newcomer goes behind keys of at most its own.
 pub passed-keys : (limit : ℕ) (keys : List ℕ) → Each (λ key. key ≤ limit) (take (passed limit keys) keys)
@@ -25,13 +25,13 @@ passed-next limit [] = λ h. absurd (not-suc-le-zero h)
 passed-next limit (key ∷ keys) = go (leb key limit) (nleb→lt key limit) (passed-next limit keys)
   where
     go : (b : Bool) → (T (not b) → limit < key) → (passed limit keys < length keys → limit < getD keys (passed limit keys) 0)
-      → cond b (suc (passed limit keys)) 0 < suc (length keys) → limit < getD (key ∷ keys) (cond b (suc (passed limit keys)) 0) 0
+        → cond b (suc (passed limit keys)) 0 < suc (length keys) → limit < getD (key ∷ keys) (cond b (suc (passed limit keys)) 0) 0
     go true h e l = e (le-of-suc-le-suc l)
     go false h e l = h tt
 
 -- What was put in at a place comes out at that place.
-pub remove-insert : {X : Type 0} (n : ℕ) (x : X) (xs : List X) → n ≤ length xs → removeAt n (insertAt n x xs) ≡ xs
-unfolding removeAt insertAt
+pub remove-insert : {X : Type 0} (n : ℕ) (x : X) (xs : List X) → n ≤ length xs → remove-at n (insert-at n x xs) ≡ xs
+unfolding remove-at insert-at
 remove-insert zero x xs h = refl
 remove-insert (suc n) x [] h = absurd (not-suc-le-zero h)
 remove-insert (suc n) x (y ∷ xs) h = ap (λ l. y ∷ l) (remove-insert n x xs (le-of-suc-le-suc h))
@@ -43,6 +43,6 @@ at-ahead n [] = λ h. absurd (not-suc-le-zero h)
 at-ahead n (x ∷ xs) = go (eqb x n) (eqb→eq x n) (at-ahead n xs)
   where
     go : (b : Bool) → (T b → x ≡ n) → (ahead n xs < length xs → getD xs (ahead n xs) 0 ≡ n)
-      → cond b 0 (suc (ahead n xs)) < suc (length xs) → getD (x ∷ xs) (cond b 0 (suc (ahead n xs))) 0 ≡ n
+        → cond b 0 (suc (ahead n xs)) < suc (length xs) → getD (x ∷ xs) (cond b 0 (suc (ahead n xs))) 0 ≡ n
     go true h e l = h tt
     go false h e l = e (le-of-suc-le-suc l)

@@ -1,5 +1,5 @@
 -- A table's rule proved once for each entry holds at each number: by induction on the table.
-use mathlib.Core.Path.{_≡_, refl, _∙_, subst}
+use mathlib.Core.Path.{_≡_, _∙_, subst}
 use mathlib.Core.List.{List, [], _∷_}
 use Prim.Native.Nat.{ℕ, zero, suc, _+_, _≤_, zero-le, suc-le-suc}
 use native.Mathlib.Omega.{arith}
@@ -32,5 +32,6 @@ module _ {X : Type 0} (Q : ℕ → X → Type 0) where
     where
       at : (j : ℕ) → up j 0 ≡ j
       at j = up-is j 0 ∙ omega arith
+
       sym-at : (j : ℕ) → j ≡ up j 0
       sym-at j = let h = at j in omega arith

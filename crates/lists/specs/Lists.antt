@@ -17,12 +17,12 @@ module _ {X : Type 0} where
   empty (x ∷ xs) = false
 
   -- x put in with n elements ahead of it.
-  unfoldable pub insertAt : ℕ → X → List X → List X
-  insertAt n x xs = take n xs ++ x ∷ drop n xs
+  unfoldable pub insert-at : ℕ → X → List X → List X
+  insert-at n x xs = take n xs ++ x ∷ drop n xs
 
   -- The list without the element that has n ahead of it.
-  unfoldable pub removeAt : ℕ → List X → List X
-  removeAt n xs = take n xs ++ drop (suc n) xs
+  unfoldable pub remove-at : ℕ → List X → List X
+  remove-at n xs = take n xs ++ drop (suc n) xs
 
 -- How many elements stand ahead of the first n: all of them, where there is no n.
 unfoldable pub ahead : ℕ → List ℕ → ℕ
@@ -31,7 +31,7 @@ ahead n (x ∷ xs) = cond (eqb x n) 0 (suc (ahead n xs))
 
 -- The list without the first n.
 unfoldable pub without : ℕ → List ℕ → List ℕ
-without n xs = removeAt (ahead n xs) xs
+without n xs = remove-at (ahead n xs) xs
 
 -- How many keys at the head are at most the limit. In a queue by key, this many stay ahead of a newcomer whose key is the limit:
 -- all of equal or smaller key.
@@ -40,9 +40,9 @@ passed limit [] = 0
 passed limit (key ∷ keys) = cond (leb key limit) (suc (passed limit keys)) 0
 
 -- The number is one of these.
-unfoldable pub oneOf : ℕ → List ℕ → Bool
-oneOf n [] = false
-oneOf n (x ∷ xs) = eqb n x || oneOf n xs
+unfoldable pub one-of : ℕ → List ℕ → Bool
+one-of n [] = false
+one-of n (x ∷ xs) = eqb n x || one-of n xs
 
 -- The n numbers from first on, ascending.
 unfoldable pub ascending : ℕ → ℕ → List ℕ

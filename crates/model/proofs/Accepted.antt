@@ -1,11 +1,10 @@
 -- A call that no row of the error table refuses names valid numbers, so they lie where its names lie: read off the table.
 use mathlib.Core.Bool.{Bool, true, false, not, _&&_, _||_, cond}
 use mathlib.Core.List.{List, [], _∷_}
-use Prim.Native.Nat.{ℕ, _≤_}
-use native.Mathlib.Omega.{arith}
+use Prim.Native.Nat.{ℕ}
 use lib.Dec.{T, eqb, leb, ltb, le→leb, nltb→le}
 use Rattle.lists.specs.Lists.{Each, none, both}
-use Rattle.model.specs.Sizes.{task-limit, within}
+use Rattle.model.specs.Sizes.{task-limit}
 use Rattle.model.specs.Rows.{Key, task, suspension, queue, mailbox, message, valid}
 use Rattle.model.specs.Calls.{Call, View, calls, names, names-task, names-queue, names-mailbox, names-message, message-of}
 use Rattle.model.specs.Waits.{able}

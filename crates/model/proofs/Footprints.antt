@@ -1,15 +1,13 @@
 -- Each call's program touches only the rows that it names and what stands in them: by the rules of footprints, a line for each call.
-use mathlib.Core.Path.{_≡_, refl}
-use mathlib.Core.Bool.{Bool, true, false, not, _&&_, _||_, cond}
-use mathlib.Core.List.{List, [], _∷_, _++_, tail, headD}
-use Prim.Native.Nat.{ℕ, zero, suc}
-use lib.Dec.{T, eqb, leb}
-use lib.ListN.{length, getD}
-use Rattle.lists.specs.Lists.{Each, none, both, empty, insertAt, without, oneOf}
+use mathlib.Core.Bool.{Bool, true, not}
+use mathlib.Core.List.{List, [], _∷_, headD}
+use Prim.Native.Nat.{ℕ}
+use lib.Dec.{T}
+use Rattle.lists.specs.Lists.{Each, none, both, empty, one-of}
 use Rattle.lists.proofs.Positions.{EachFrom, at-number}
 use Rattle.lists.proofs.Each.{each-tail, each-head, each-append, each-insert, each-without}
-use Rattle.rows.specs.Program.{Program, return, get, put, if_then_else_}
-use Rattle.rows.proofs.Footprint.{Within, in-return, in-get, in-put, in-if}
+use Rattle.rows.specs.Program.{get, put}
+use Rattle.rows.proofs.Footprint.{Within, in-return, in-get, in-put, in-get-each, in-if}
 use Rattle.model.specs.Rows.{Key, task, suspension, queue, mailbox, message, valid, Row, TaskRow, QueueRow, MailboxRow, MessageRow, Environment, Effect, free, nothing}
 use Rattle.model.specs.Codes.{Code}
 use Rattle.model.specs.Calls.{Call, View, seen, look-at, names}
@@ -17,7 +15,7 @@ use Rattle.model.specs.Waits.{Wait, NoWait, Sending, Receiving, AtMailbo
 use Rattle.model.specs.WaitQueues.{priorities, release, take-out, end-wait, end-waits}
 use Rattle.model.specs.DataQueues.{deliver, store, replace-oldest, wait-to-send, send, take-oldest, take-oldest-and-refill, take-from-sender, wait-to-receive, receive}
 use Rattle.model.specs.Mailboxes.{message-priorities, free-messages, deliver-message, queue-message, take-message, wait-for-message, send-message, receive-message}
-use Rattle.model.specs.Errors.{refused, refusal}
+use Rattle.model.specs.Errors.{refused}
 use Rattle.model.specs.Step.{effects, effect, no-call, program}
 use Rattle.model.specs.Isolation.{WaitsIn, QueuedIn}
 use Rattle.model.proofs.Step.{numbered}
@@ -89,14 +87,10 @@ module _ (S : Key → Type 0) where
   -- ── What several calls share ──
 
   in-priorities : (l : List ℕ) (f : List ℕ → Effect) → Tasks l → ((keys : List ℕ) → In (f keys)) → In (priorities l f)
-  unfolding priorities Within
-  in-priorities [] f none h = h []
-  in-priorities (t ∷ ts) f (both s e) h = (s, λ x r. in-priorities ts (λ keys. f (x .priority ∷ keys)) e (λ keys. h (x .priority ∷ keys)))
+  in-priorities l f e h = in-get-each Refs S task _ l f e h
 
   in-message-priorities : (l : List ℕ) (f : List ℕ → Effect) → Messages l → ((keys : List ℕ) → In (f keys)) → In (message-priorities l f)
-  unfolding message-priorities Within
-  in-message-priorities [] f none h = h []
-  in-message-priorities (g ∷ gs) f (both s e) h = (s, λ x r. in-message-priorities gs (λ keys. f (x .priority ∷ keys)) e (λ keys. h (x .priority ∷ keys)))
+  in-message-priorities l f e h = in-get-each Refs S message _ l f e h
 
   in-release : (t : ℕ) (code : Code) (word : ℕ) (p : Effect) → S (task t) → In p → In (release t code word p)
   unfolding release
@@ -179,7 +173,7 @@ module _ (S : Key → Type 0) where
   ruleset All = (Shared, in-wait-to-send, in-send, in-replace-oldest, in-wait-to-receive, in-receive, in-send-message, in-wait-for-message, in-receive-message)
 
   in-effects : EachFrom InFor 0 effects
-  unfolding EachFrom effects oneOf
+  unfolding EachFrom effects one-of
   in-effects = (
     λ e v c r a. search All,  -- 0
     (

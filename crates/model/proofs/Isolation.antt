@@ -1,6 +1,6 @@
 -- Demand 3: a carrier's part of the state is its rows with whatever stands in its objects at the start; no other carrier's call touches it.
 use mathlib.Core.Path.{_≡_, refl, sym, _∙_, ap, subst}
-use mathlib.Core.Bool.{Bool, true, false, not, cond}
+use mathlib.Core.Bool.{Bool, true, false, cond}
 use mathlib.Core.List.{List, [], cons≢nil}
 use Prim.Native.Nat.{ℕ}
 use native.Mathlib.Omega.{arith}
@@ -8,16 +8,14 @@ use lib.Dec.{T, eqb}
 use Rattle.lists.specs.Lists.{Each, none, both}
 use Rattle.lists.proofs.Each.{each-map}
 use Rattle.rows.specs.Program as Program
-use Rattle.rows.specs.Merge.{Separate}
-use Rattle.rows.specs.Merges.{SeparateAll}
 use Rattle.rows.proofs.Footprint.{Closed}
 use Rattle.rows.proofs.Owned.{separate-programs}
-use Rattle.rows.proofs.Two.{twoLists, each-list, each-caller, two-of}
-use Rattle.model.specs.Rows.{Key, task, suspension, queue, mailbox, message, tell, valid, Row, Model}
-use Rattle.model.specs.Calls.{Call, names}
+use Rattle.rows.proofs.Two.{two-lists, each-list, each-caller, two-of}
+use Rattle.model.specs.Rows.{Key, task, suspension, queue, mailbox, message, tell, Row, nothing, empty-state}
+use Rattle.model.specs.Calls.{Call}
 use Rattle.model.specs.Waits.{Wait, NoWait, Sending, Receiving, AtMailbox}
 use Rattle.model.specs.Step.{program, step}
-use Rattle.model.specs.Isolation.{WaitsAt, QueuedAt, Linked, WaitsIn, QueuedIn, Placed, CallOf, Carrier, owns, Own, Disjoint, Isolation, Owners, owner, OwnedBy, IsolationOfMany}
+use Rattle.model.specs.Isolation.{WaitsAt, Linked, WaitsIn, QueuedIn, Placed, CallOf, Carrier, owns, Own, Isolation, IsolationFromEmpty, Owners, owner, OwnedBy, IsolationOfMany}
 use Rattle.model.proofs.Tests.{cond-no, cond-both}
 use Rattle.model.proofs.Step.{step-call}
 use Rattle.model.proofs.Footprints.{Refs, in-program}
@@ -171,7 +169,7 @@ owner-is a b (message n) = refl
 pub isolation : Isolation
 isolation m linked a b apart placed-a placed-b xs ys own-a own-b =
     two-of tell-who first second differ step m xs ys
-    (isolation-of-many Who tell-who m linked (owners a b) (twoLists tell-who first second xs ys)
+    (isolation-of-many Who tell-who m linked (owners a b) (two-lists tell-who first second xs ys)
     (each-caller tell-who first second differ (λ i. Placed (OwnedBy (owners a b) i) (m .rows)) xs ys (placed-into in-a of-a (m .rows) placed-a) (placed-into in-b of-b (m .rows) placed-b))
     (each-list tell-who first second differ (λ i. CallOf (OwnedBy (owners a b) i)) (each-map (call-into in-a) own-a) (each-map (call-into in-b) own-b)))
   where
@@ -189,3 +187,16 @@ isolation m linked a b apart placed-a placed-b xs ys own-a own-b =
 
     of-b : (k : Key) → OwnedBy (owners a b) second k → Own b k
     of-b k h = of-second (owns a k) (owns b k) (sym (owner-is a b k) ∙ h)
+
+-- ── The premises can be met: the empty state meets them ──
+
+linked-empty : Linked nothing
+linked-empty = record { senders = λ q. none; receivers = λ q. none; waiters = λ b. none; messages = λ b. none }
+
+placed-empty : (S : Key → Type 0) → Placed S nothing
+unfolding QueuedIn
+placed-empty S = record { tasks = λ t h. tt; messages = λ g h t. absurd t }
+
+pub isolation-from-empty : IsolationFromEmpty
+isolation-from-empty counter a b apart xs ys own-a own-b =
+    isolation (empty-state counter) linked-empty a b apart (placed-empty (Own a)) (placed-empty (Own b)) xs ys own-a own-b

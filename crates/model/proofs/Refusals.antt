@@ -1,28 +1,28 @@
 -- The table refuses and nothing else does: an accepted call's effect answers no error, a line for each call.
-use mathlib.Core.Path.{_≡_, refl, sym, _∙_, ap, subst}
-use mathlib.Core.Bool.{Bool, true, false, not, _&&_, _||_}
+use mathlib.Core.Path.{_∙_, ap}
+use mathlib.Core.Bool.{Bool, not, _&&_}
 use mathlib.Core.List.{List, [], _∷_}
 use Prim.Native.Nat.{ℕ, _≤_}
 use native.Mathlib.Omega.{arith}
 use lib.Dec.{T, eqb, leb, leb→le, T-not}
 use lib.ListN.{length}
-use Rattle.lists.specs.Lists.{oneOf, empty}
+use Rattle.lists.specs.Lists.{one-of, empty}
 use Rattle.lists.proofs.Positions.{EachFrom, at-number}
-use Rattle.rows.specs.Program.{Result, return, get, put, if_then_else_, run, stepOf}
-use Rattle.rows.proofs.Run.{run-yes, run-no, Answers, answers-return, answers-get, answers-put, answers-if, run-answers}
+use Rattle.rows.specs.Program.{return, get, put, if_then_else_, get-each, step-of}
+use Rattle.rows.proofs.Run.{Answers, answers-return, answers-get, answers-put, answers-if, answers-get-each, run-answers}
 use Rattle.model.specs.Sizes.{call-limit, within}
-use Rattle.model.specs.Rows.{Key, tell, Row, TaskRow, QueueRow, MailboxRow, Environment, Effect, Model, has-room}
-use Rattle.model.specs.Codes.{Code, refuse}
-use Rattle.model.specs.Calls.{Call, View, look-at, view-of}
-use Rattle.model.specs.Errors.{unknown, polls, would-wait, refused, refusal}
+use Rattle.model.specs.Rows.{Key, tell, Row, TaskRow, QueueRow, MailboxRow, Environment, Effect, has-room}
+use Rattle.model.specs.Codes.{Code}
+use Rattle.model.specs.Calls.{Call, View, view-of}
+use Rattle.model.specs.Errors.{unknown, polls, would-wait}
 use Rattle.model.specs.Waits.{Wait, NoWait, Sending, Receiving, AtMailbox, End}
-use Rattle.model.specs.WaitQueues.{priorities, release, take-out, end-wait, end-waits}
+use Rattle.model.specs.WaitQueues.{release, take-out, end-wait, end-waits}
 use Rattle.model.specs.DataQueues.{deliver, store, replace-oldest, wait-to-send, send, take-oldest, take-oldest-and-refill, take-from-sender, wait-to-receive, receive}
-use Rattle.model.specs.Mailboxes.{message-priorities, free-messages, deliver-message, queue-message, take-message, wait-for-message, send-message, receive-message}
-use Rattle.model.specs.Step.{program, effects, effect, no-call, step}
-use Rattle.model.specs.Refusals.{NoError, RefusedByTable, Refusals}
+use Rattle.model.specs.Mailboxes.{free-messages, deliver-message, queue-message, take-message, wait-for-message, send-message, receive-message}
+use Rattle.model.specs.Step.{effects, effect, no-call}
+use Rattle.model.specs.Refusals.{NoError, Refusals}
 use Rattle.model.specs.declared.Answer.{Answer}
-use Rattle.model.proofs.Tests.{neither-left, neither-right, not-not, and-both, and-right, or-left}
+use Rattle.model.proofs.Tests.{not-not, and-both, and-right, or-left}
 use Rattle.model.proofs.Accepted.{Passes, passes}
 use Rattle.model.proofs.Step.{step-call, run-refused, run-accepted, numbered}
 
@@ -49,15 +49,8 @@ ruleset Rules = (ok-return, ok-get, ok-put, ok-if)
 
 -- ── What several calls share ──
 
-ok-priorities : (l : List ℕ) (f : List ℕ → Effect) → ((keys : List ℕ) → Ok (f keys)) → Ok (priorities l f)
-unfolding priorities
-ok-priorities [] f h = h []
-ok-priorities (t ∷ ts) f h = ok-get _ _ λ x. ok-priorities ts _ λ keys. h (x .priority ∷ keys)
-
-ok-message-priorities : (l : List ℕ) (f : List ℕ → Effect) → ((keys : List ℕ) → Ok (f keys)) → Ok (message-priorities l f)
-unfolding message-priorities
-ok-message-priorities [] f h = h []
-ok-message-priorities (g ∷ gs) f h = ok-get _ _ λ x. ok-message-priorities gs _ λ keys. h (x .priority ∷ keys)
+ok-get-each : (key : ℕ → Key) (read : (n : ℕ) → Row (key n) → ℕ) (l : List ℕ) (f : List ℕ → Effect) → ((keys : List ℕ) → Ok (f keys)) → Ok (get-each key read l f)
+ok-get-each key read l f h = answers-get-each Row Fine key read l f h
 
 ok-release : (t : ℕ) (code : Code) (word : ℕ) (p : Effect) → Ok p → Ok (release t code word p)
 unfolding release
@@ -84,7 +77,7 @@ unfolding free-messages
 ok-free-messages [] p h = h
 ok-free-messages (g ∷ gs) p h = ok-put _ _ _ (ok-free-messages gs p h)
 
-ruleset Shared = (Rules, ok-priorities, ok-message-priorities, ok-release, ok-end-wait, ok-end-waits, ok-free-messages)
+ruleset Shared = (Rules, ok-get-each, ok-release, ok-end-wait, ok-end-waits, ok-free-messages)
 
 -- ── The calls that may wait: what they do otherwise is no error where they come to it ──
 
@@ -130,15 +123,15 @@ no-poll-waits v c p t u = T-not (polls c && would-wait v c) (p .step-7) (and-bot
 
 module _ (v : View) (c : Call) where
   psnd-served : Passes v (numbered 5 c) → T (empty (v .the-queue .receivers)) → T (not (has-room (v .the-queue))) → ⊥
-  unfolding polls would-wait oneOf
+  unfolding polls would-wait one-of
   psnd-served p r s = no-poll-waits v (numbered 5 c) p tt (search (or-left, and-both))
 
   prcv-served : Passes v (numbered 9 c) → T (empty (v .the-queue .words)) → T (empty (v .the-queue .senders)) → ⊥
-  unfolding polls would-wait oneOf
+  unfolding polls would-wait one-of
   prcv-served p r s = no-poll-waits v (numbered 9 c) p tt (search (or-left, and-both))
 
   prcv-mbx-served : Passes v (numbered 16 c) → T (empty (v .the-mailbox .messages)) → ⊥
-  unfolding polls would-wait oneOf
+  unfolding polls would-wait one-of
   prcv-mbx-served p r = no-poll-waits v (numbered 16 c) p tt r
 
 -- Call n has the effect f, and that answers no error for an accepted call other than fetch.
@@ -149,32 +142,79 @@ ruleset All = (Shared, ok-wait-to-send, ok-send, ok-replace-oldest, ok-wait-to-r
 
 ok-effects : EachFrom OkFor 0 effects
 unfolding EachFrom effects unknown
-ok-effects =
-    (λ e v c p t. absurd (p .step-0),  -- 0
-    (λ e v c p t. search All,  -- 1
-    (λ e v c p t. search All,  -- 2
-    (λ e v c p t. search All,  -- 3
-    (λ e v c p t. search All,  -- 4
-    (λ e v c p t. ok-send _ _ _ _ (λ r s. absurd (psnd-served v c p r s)),  -- 5
-    (λ e v c p t. search All,  -- 6
-    (λ e v c p t. search All,  -- 7
-    (λ e v c p t. search All,  -- 8
-    (λ e v c p t. ok-receive _ _ _ (λ r s. absurd (prcv-served v c p r s)),  -- 9
-    (λ e v c p t. search All,  -- 10
-    (λ e v c p t. search All,  -- 11
-    (λ e v c p t. search All,  -- 12
-    (λ e v c p t. search All,  -- 13
-    (λ e v c p t. search All,  -- 14
-    (λ e v c p t. search All,  -- 15
-    (λ e v c p t. ok-receive-message _ _ _ (λ r. absurd (prcv-mbx-served v c p r)),  -- 16
-    (λ e v c p t. search All,  -- 17
-    (λ e v c p t. search All,  -- 18
-    (λ e v c p t. search All,  -- 19
-    (λ e v c p t. search All,  -- 20
-    (λ e v c p t. search All,  -- 21
-    (λ e v c p t. search All,  -- 22
-    (λ e v c p t. absurd t,  -- 23
-    tt))))))))))))))))))))))))
+ok-effects = (
+  λ e v c p t. absurd (p .step-0),  -- 0
+  (
+    λ e v c p t. search All,  -- 1
+    (
+      λ e v c p t. search All,  -- 2
+      (
+        λ e v c p t. search All,  -- 3
+        (
+          λ e v c p t. search All,  -- 4
+          (
+            λ e v c p t. ok-send _ _ _ _ (λ r s. absurd (psnd-served v c p r s)),  -- 5
+            (
+              λ e v c p t. search All,  -- 6
+              (
+                λ e v c p t. search All,  -- 7
+                (
+                  λ e v c p t. search All,  -- 8
+                  (
+                    λ e v c p t. ok-receive _ _ _ (λ r s. absurd (prcv-served v c p r s)),  -- 9
+                    (
+                      λ e v c p t. search All,  -- 10
+                      (
+                        λ e v c p t. search All,  -- 11
+                        (
+                          λ e v c p t. search All,  -- 12
+                          (
+                            λ e v c p t. search All,  -- 13
+                            (
+                              λ e v c p t. search All,  -- 14
+                              (
+                                λ e v c p t. search All,  -- 15
+                                (
+                                  λ e v c p t. ok-receive-message _ _ _ (λ r. absurd (prcv-mbx-served v c p r)),  -- 16
+                                  (
+                                    λ e v c p t. search All,  -- 17
+                                    (
+                                      λ e v c p t. search All,  -- 18
+                                      (
+                                        λ e v c p t. search All,  -- 19
+                                        (
+                                          λ e v c p t. search All,  -- 20
+                                          (
+                                            λ e v c p t. search All,  -- 21
+                                            (
+                                              λ e v c p t. search All,  -- 22
+                                              (
+                                                λ e v c p t. absurd t,  -- 23
+                                                tt,
+                                              ),
+                                            ),
+                                          ),
+                                        ),
+                                      ),
+                                    ),
+                                  ),
+                                ),
+                              ),
+                            ),
+                          ),
+                        ),
+                      ),
+                    ),
+                  ),
+                ),
+              ),
+            ),
+          ),
+        ),
+      ),
+    ),
+  ),
+)
 
 -- Beyond the table a number is unknown.
 beyond : (n : ℕ) → length effects ≤ n → OkFor n no-call
@@ -186,10 +226,11 @@ unfolding effect
 ok-effect e v c p t = at-number OkFor no-call effects beyond ok-effects (c .number) e v c p t
 
 pub refusals : Refusals
-unfolding stepOf
+unfolding step-of
 refusals m c t = record {
   by-row = λ r. step-call m c t ∙ ap (λ o. record { state = record { environment = m .environment; rows = o .state }; answer = o .answer }) (run-refused (m .environment) c (m .rows) r);
   else-no-error = λ r n.
       rw (step-call m c t, run-accepted (m .environment) c (m .rows) r)
       (run-answers Row Fine tell (effect (m .environment) (view-of (m .rows) c) c) (m .rows)
-        (ok-effect (m .environment) (view-of (m .rows) c) c (passes (view-of (m .rows) c) c r) n)) }
+      (ok-effect (m .environment) (view-of (m .rows) c) c (passes (view-of (m .rows) c) c r) n));
+}

@@ -4,7 +4,7 @@ use mathlib.Core.Bool.{Bool, true, false, not, cond}
 use Prim.Native.Nat.{ℕ}
 use lib.Dec.{T, eqb}
 use Rattle.rows.specs.Program as Program
-use Rattle.rows.specs.Program.{get, if_then_else_, run, stepOf}
+use Rattle.rows.specs.Program.{get, if_then_else_, run, step-of}
 use Rattle.rows.proofs.Run.{run-return, run-yes, run-no}
 use Rattle.model.specs.Rows.{Key, task, suspension, queue, mailbox, message, tell, valid, Row, Environment, Effect, Model, nothing}
 use Rattle.model.specs.Codes.{finished}
@@ -29,7 +29,7 @@ run-look-at c f m =
 
 -- A refused call answers the table's code, and its rows stay.
 pub run-refused : (e : Environment) (c : Call) (m : Program.Rows Row) → T (refused true (view-of m c) c)
-  → run tell (program e c) m ≡ record { state = m; answer = finished (refusal true (view-of m c) c) 0 0 0 }
+    → run tell (program e c) m ≡ record { state = m; answer = finished (refusal true (view-of m c) c) 0 0 0 }
 unfolding program
 run-refused e c m t = run-look-at c _ m ∙ (run-yes tell _ _ _ m t ∙ run-return tell _ m)
 
@@ -39,7 +39,7 @@ unfolding program
 run-accepted e c m t = run-look-at c _ m ∙ run-no tell _ _ _ m t
 
 -- A call that is no tick is its program's step.
-pub step-call : (m : Model) (c : Call) → T (not (eqb (c .number) 0)) → step m c ≡ stepOf tell program m c
+pub step-call : (m : Model) (c : Call) → T (not (eqb (c .number) 0)) → step m c ≡ step-of tell program m c
 unfolding step call
 step-call m c t = cond-no (eqb (c .number) 0) _ _ t
 

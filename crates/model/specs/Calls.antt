@@ -3,7 +3,7 @@ use mathlib.Core.Bool.{Bool, cond}
 use mathlib.Core.List.{List, [], _∷_}
 use Prim.Native.Nat.{ℕ}
 use lib.Dec.{eqb}
-use Rattle.lists.specs.Lists.{oneOf}
+use Rattle.lists.specs.Lists.{one-of}
 use Rattle.rows.specs.Program as Program
 use Rattle.rows.specs.Program.{get, if_then_else_, _>>=_}
 use Rattle.model.specs.Sizes.{within}
@@ -12,7 +12,7 @@ pub use Rattle.model.specs.declared.Call.{Call}
 
 -- The call's number is one of these.
 abbrev pub calls : Call → List ℕ → Bool
-calls c numbers = oneOf (c .number) numbers
+calls c numbers = one-of (c .number) numbers
 
 -- The column "Names": what the field `object` is the number of.
 abbrev pub names-task : Call → Bool
@@ -86,7 +86,8 @@ view-of m c = record {
   suspended = shown m (suspension (task-named c));
   the-queue = shown m (queue (queue-named c));
   the-mailbox = shown m (mailbox (mailbox-named c));
-  the-message = shown m (message (message-named c)) }
+  the-message = shown m (message (message-named c));
+}
 
 -- The same as a program, so that what a call reads is part of what it does.
 unfoldable pub seen : (k : Key) → (Row k → Effect) → Effect

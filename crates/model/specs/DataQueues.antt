@@ -1,9 +1,9 @@
 -- Document 01, "Sending and receiving": calls 2 to 11, where no row of the error table applies.
 use mathlib.Core.Bool.{true, not}
-use mathlib.Core.List.{List, [], _∷_, _++_, tail, headD}
+use mathlib.Core.List.{[], _∷_, _++_, tail, headD}
 use Prim.Native.Nat.{ℕ}
 use lib.ListN.{length}
-use Rattle.lists.specs.Lists.{empty, insertAt}
+use Rattle.lists.specs.Lists.{empty, insert-at}
 use Rattle.rows.specs.Program.{return, get, put, if_then_else_, _>>=_, _>>_}
 use Rattle.model.specs.Rows.{task, queue, TaskRow, QueueRow, Environment, Effect, senders-by-priority, has-room, no-queue, with-words, with-senders, with-receivers}
 use Rattle.model.specs.Codes.{E-OK, E-DLT, finished, waits, done, gives, refused-at-step-7}
@@ -37,7 +37,7 @@ module _ (q : ℕ) (x : QueueRow) where
   wait-to-send me row word end = do
     keys ← priorities (x .senders)
     let n = place (senders-by-priority (x .attribute)) (row .priority) keys
-    put (queue q) (with-senders (insertAt n me (x .senders)) x)
+    put (queue q) (with-senders (insert-at n me (x .senders)) x)
     put (task me) (starting (Sending q end word) row)
     return (waits n)
 

@@ -1,11 +1,10 @@
 -- Document 01, "Error numbers and their order": the table, row by row, and what a refusal is.
-use mathlib.Core.Bool.{Bool, true, false, not, _&&_, _||_, cond}
+use mathlib.Core.Bool.{Bool, false, not, _&&_, _||_, cond}
 use mathlib.Core.List.{List, [], _∷_}
-use Prim.Native.Nat.{ℕ}
-use lib.Dec.{eqb, leb, ltb}
+use lib.Dec.{eqb, ltb}
 use lib.IntN.{ℤ, pos, negsuc}
 use lib.Signed.{ltZ}
-use Rattle.lists.specs.Lists.{oneOf, empty}
+use Rattle.lists.specs.Lists.{empty}
 use Rattle.model.specs.Sizes.{call-limit, task-limit, capacity-limit, priority-limit, tmout-limit, within}
 use Rattle.model.specs.Rows.{task, queue, mailbox, message, valid, has-room, messages-by-priority}
 use Rattle.model.specs.Waits.{able}
@@ -93,11 +92,11 @@ message-priority-outside v c =
 
 unfoldable pub wrong-state : View → Call → Bool
 wrong-state v c =
-    calls c (1 ∷ 2 ∷ 12 ∷ []) && exists v c
-    || names-message c && not (eqb (v .the-message .queued-in) 0)
-    || eqb (c .number) 19 && able (v .the-task .wait)
-    || eqb (c .number) 21 && not (v .suspended)
-    || eqb (c .number) 23 && not (able (v .the-task .wait))
+    calls c (1 ∷ 2 ∷ 12 ∷ []) && exists v c  -- already exists
+    || names-message c && not (eqb (v .the-message .queued-in) 0)  -- already queued in some mailbox
+    || eqb (c .number) 19 && able (v .the-task .wait)  -- not waiting
+    || eqb (c .number) 21 && not (v .suspended)  -- not suspended
+    || eqb (c .number) 23 && not (able (v .the-task .wait))  -- waiting
 
 unfoldable pub suspended-already : View → Call → Bool
 suspended-already v c = eqb (c .number) 20 && v .suspended
@@ -117,9 +116,9 @@ polls c = calls c (5 ∷ 9 ∷ 16 ∷ []) || calls c (6 ∷ 10 ∷ 17 ∷ []) &&
 
 unfoldable pub would-wait : View → Call → Bool
 would-wait v c =
-    within 4 6 (c .number) && empty (v .the-queue .receivers) && not (has-room (v .the-queue))
-    || within 8 10 (c .number) && empty (v .the-queue .words) && empty (v .the-queue .senders)
-    || within 15 17 (c .number) && empty (v .the-mailbox .messages)
+    within 4 6 (c .number) && empty (v .the-queue .receivers) && not (has-room (v .the-queue))  -- nobody to give the word to, and no room
+    || within 8 10 (c .number) && empty (v .the-queue .words) && empty (v .the-queue .senders)  -- no word stored, and none to be had
+    || within 15 17 (c .number) && empty (v .the-mailbox .messages)  -- no message queued
 
 -- ── The table ──
 

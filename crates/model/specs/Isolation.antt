@@ -8,7 +8,7 @@ use Rattle.lists.specs.Lists.{Each}
 use Rattle.rows.specs.Program as Program
 use Rattle.rows.specs.Merge.{Separate}
 use Rattle.rows.specs.Merges.{SeparateAll}
-use Rattle.model.specs.Rows.{Key, task, suspension, queue, mailbox, message, valid, Row, TaskRow, QueueRow, MailboxRow, MessageRow, Model}
+use Rattle.model.specs.Rows.{Key, task, suspension, queue, mailbox, message, valid, Row, MessageRow, Model, empty-state}
 use Rattle.model.specs.Calls.{Call, names}
 use Rattle.model.specs.Waits.{Wait, NoWait, Sending, Receiving, AtMailbox}
 use Rattle.model.specs.Step.{step}
@@ -83,6 +83,13 @@ Isolation =
     → (a b : Carrier) → Disjoint a b → Placed (Own a) (m .rows) → Placed (Own b) (m .rows)
     → (xs ys : List Call) → Each (CallOf (Own a)) xs → Each (CallOf (Own b)) ys
     → Separate step m xs ys
+
+-- From the empty state, whatever the counter, nothing is asked of the state.
+abbrev pub IsolationFromEmpty : Type 0
+IsolationFromEmpty =
+    (counter : ℕ) (a b : Carrier) → Disjoint a b
+    → (xs ys : List Call) → Each (CallOf (Own a)) xs → Each (CallOf (Own b)) ys
+    → Separate step (empty-state counter) xs ys
 
 -- ── Any number of carriers ──
 

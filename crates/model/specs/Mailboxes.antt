@@ -2,8 +2,8 @@
 use mathlib.Core.Bool.{true, not, cond}
 use mathlib.Core.List.{List, [], _∷_, tail, headD}
 use Prim.Native.Nat.{ℕ}
-use Rattle.lists.specs.Lists.{empty, insertAt}
-use Rattle.rows.specs.Program.{return, get, put, if_then_else_, _>>=_, _>>_}
+use Rattle.lists.specs.Lists.{empty, insert-at}
+use Rattle.rows.specs.Program.{return, put, get-each, if_then_else_, _>>=_, _>>_}
 use Rattle.model.specs.Rows.{task, mailbox, message, TaskRow, MailboxRow, Environment, Effect, waiters-by-priority, messages-by-priority, no-mailbox, free, with-waiters, with-messages}
 use Rattle.model.specs.Codes.{E-OK, E-DLT, finished, waits, done, gives, refused-at-step-7}
 use Rattle.model.specs.Calls.{Call, View, message-of, highest-of, message-priority-of}
@@ -11,12 +11,8 @@ use Rattle.model.specs.Waits.{End, Never, AtMailbox, starting, end-of}
 use Rattle.model.specs.WaitQueues.{priorities, place, release, end-waits}
 
 -- The priorities kept with these messages, in order.
-unfoldable pub message-priorities : List ℕ → (List ℕ → Effect) → Effect
-message-priorities [] rest = rest []
-message-priorities (g ∷ gs) rest = do
-  x ← get (message g)
-  keys ← message-priorities gs
-  rest (x .priority ∷ keys)
+abbrev pub message-priorities : List ℕ → (List ℕ → Effect) → Effect
+message-priorities gs rest = get-each message (λ g x. x .priority) gs rest
 
 unfoldable pub free-messages : List ℕ → Effect → Effect
 free-messages [] rest = rest
@@ -39,7 +35,7 @@ module _ (b : ℕ) (x : MailboxRow) where
   queue-message g priority = do
     keys ← message-priorities (x .messages)
     let n = place (messages-by-priority (x .attribute)) priority keys
-    put (mailbox b) (with-messages (insertAt n g (x .messages)) x)
+    put (mailbox b) (with-messages (insert-at n g (x .messages)) x)
     put (message g) (record { queued-in = b; priority = cond (messages-by-priority (x .attribute)) priority 0 })
     gives n
 
@@ -55,7 +51,7 @@ module _ (b : ℕ) (x : MailboxRow) where
   wait-for-message me row end = do
     keys ← priorities (x .waiters)
     let n = place (waiters-by-priority (x .attribute)) (row .priority) keys
-    put (mailbox b) (with-waiters (insertAt n me (x .waiters)) x)
+    put (mailbox b) (with-waiters (insert-at n me (x .waiters)) x)
     put (task me) (starting (AtMailbox b end) row)
     return (waits n)
 
@@ -105,5 +101,5 @@ module _ (e : Environment) (v : View) (c : Call) where
 
 -- Opens every definition of this file.
 unfoldable pub open-mailboxes : Unit {0}
-unfolding message-priorities free-messages deliver-message queue-message take-message wait-for-message send-message receive-message
+unfolding free-messages deliver-message queue-message take-message wait-for-message send-message receive-message
 open-mailboxes = tt

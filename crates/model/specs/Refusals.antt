@@ -2,7 +2,6 @@
 use mathlib.Core.Path.{_≡_}
 use mathlib.Core.Bool.{true, not}
 use lib.Dec.{T, eqb}
-use Rattle.rows.specs.Program.{Result}
 use Rattle.model.specs.Rows.{Model}
 use Rattle.model.specs.Codes.{E-OK, finished}
 use Rattle.model.specs.Calls.{Call, view-of}

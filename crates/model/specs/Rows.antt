@@ -1,11 +1,11 @@
 -- The state as a table of rows, and the tick counter beside it.
-use mathlib.Core.Bool.{Bool, true, false}
+use mathlib.Core.Bool.{Bool, false}
 use mathlib.Core.List.{List, [], _∷_}
 use native.Mathlib.Decide.{ℕ-discrete}
 use Prim.Native.Nat.{ℕ}
 use lib.Dec.{eqb, ltb}
 use lib.ListN.{length}
-use Rattle.lists.specs.Lists.{oneOf}
+use Rattle.lists.specs.Lists.{one-of}
 use Rattle.rows.specs.Program.{Program, State}
 use Rattle.rows.specs.Program as Program
 use Rattle.model.specs.Sizes.{task-limit, queue-limit, mailbox-limit, message-limit, within}
@@ -85,10 +85,10 @@ senders-by-priority attribute = eqb attribute 1
 
 -- Mailbox attribute: 1 is added for waiters by task priority, 2 for messages by priority.
 abbrev pub waiters-by-priority : ℕ → Bool
-waiters-by-priority attribute = oneOf attribute (1 ∷ 3 ∷ [])
+waiters-by-priority attribute = one-of attribute (1 ∷ 3 ∷ [])
 
 abbrev pub messages-by-priority : ℕ → Bool
-messages-by-priority attribute = oneOf attribute (2 ∷ 3 ∷ [])
+messages-by-priority attribute = one-of attribute (2 ∷ 3 ∷ [])
 
 abbrev pub has-room : QueueRow → Bool
 has-room x = ltb (length (x .words)) (x .capacity)

@@ -1,10 +1,9 @@
 -- A call from its number to its answer, and the single-call entry, where number 0 is the tick.
 use mathlib.Core.Bool.{true, cond}
 use mathlib.Core.List.{List, [], _∷_}
-use Prim.Native.Nat.{ℕ}
 use lib.Dec.{eqb}
 use lib.ListN.{getD}
-use Rattle.rows.specs.Program.{Result, if_then_else_, stepOf}
+use Rattle.rows.specs.Program.{Result, if_then_else_, step-of}
 use Rattle.model.specs.Rows.{tell, Environment, Model, Effect}
 use Rattle.model.specs.Codes.{E-PAR, refuse}
 use Rattle.model.specs.Calls.{Call, View, look-at}
@@ -41,7 +40,7 @@ unfoldable pub program : Environment → Call → Effect
 program e c = look-at c λ v. if refused true v c then refuse (refusal true v c) else effect e v c
 
 unfoldable pub call : Model → Call → Result Model Answer
-call m c = stepOf tell program m c
+call m c = step-of tell program m c
 
 -- One call, or the tick.
 unfoldable pub step : Model → Call → Result Model Answer

@@ -4,18 +4,14 @@ use mathlib.Core.List.{List, [], _∷_}
 use Prim.Native.Nat.{ℕ}
 use lib.ListN.{length}
 use Rattle.lists.specs.Lists.{without, passed}
-use Rattle.rows.specs.Program.{get, put, _>>=_, _>>_}
-use Rattle.model.specs.Rows.{task, queue, mailbox, TaskRow, QueueRow, MailboxRow, Effect, with-senders, with-receivers, with-waiters}
+use Rattle.rows.specs.Program.{get, put, get-each, _>>=_, _>>_}
+use Rattle.model.specs.Rows.{task, queue, mailbox, Effect, with-senders, with-receivers, with-waiters}
 use Rattle.model.specs.Codes.{Code}
 use Rattle.model.specs.Waits.{Wait, NoWait, Sending, Receiving, AtMailbox, ended}
 
 -- The priorities of these tasks, in order.
-unfoldable pub priorities : List ℕ → (List ℕ → Effect) → Effect
-priorities [] rest = rest []
-priorities (t ∷ ts) rest = do
-  x ← get (task t)
-  keys ← priorities ts
-  rest (x .priority ∷ keys)
+abbrev pub priorities : List ℕ → (List ℕ → Effect) → Effect
+priorities ts rest = get-each task (λ t x. x .priority) ts rest
 
 -- "Place" is document 01's word: how many stay ahead. By priority, those of equal or smaller number, which came before; else all.
 unfoldable pub place : Bool → ℕ → List ℕ → ℕ
@@ -61,5 +57,5 @@ end-waits (t ∷ ts) code rest = do
 
 -- Opens every definition of this file.
 unfoldable pub open-wait-queues : Unit {0}
-unfolding priorities place release take-out end-wait end-waits
+unfolding place release take-out end-wait end-waits
 open-wait-queues = tt

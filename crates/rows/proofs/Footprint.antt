@@ -1,8 +1,10 @@
 -- A program within a set of rows leaves the rows outside alone and goes by nothing outside: by induction on programs.
 use mathlib.Core.Path.{_≡_, refl, sym, _∙_, subst}
 use mathlib.Core.Bool.{Bool, true, false, not}
+use mathlib.Core.List.{List, [], _∷_}
 use lib.Dec.{T}
-use Rattle.rows.specs.Program.{Program, return, get, put, if_then_else_, Result, Rows, update, run}
+use Rattle.lists.specs.Lists.{Each, none, both}
+use Rattle.rows.specs.Program.{Program, return, get, put, if_then_else_, get-each, Rows, update, run}
 use Rattle.rows.proofs.Update.{update-cases, update-other, update-agree}
 
 -- `Refs S k v`: whatever the row v at key k names lies in S.
@@ -30,6 +32,12 @@ module _ {Key : Type 0} {Row : Key → Type 0} (Refs : (Key → Type 0) → (k :
     pub in-put : (k : Key) (v : Row k) (p : Program Key Row A) → S k → Refs S k v → Within p → Within (put k v p)
     unfolding Within
     in-put k v p s r h = (s, r, h)
+
+    pub in-get-each : {N X : Type 0} (key : N → Key) (read : (n : N) → Row (key n) → X) (l : List N) (f : List X → Program Key Row A)
+        → Each (λ n. S (key n)) l → ((xs : List X) → Within (f xs)) → Within (get-each key read l f)
+    unfolding Within get-each
+    in-get-each key read [] f none h = h []
+    in-get-each key read (n ∷ ns) f (both s e) h = (s, λ row r. in-get-each key read ns (λ others. f (read n row ∷ others)) e (λ others. h (read n row ∷ others)))
 
     pub in-if : (b : Bool) (p q : Program Key Row A) → (T b → Within p) → (T (not b) → Within q) → Within (if b then p else q)
     unfolding Within

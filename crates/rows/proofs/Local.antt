@@ -4,7 +4,7 @@ use mathlib.Core.List.{List, [], _∷_}
 use Rattle.lists.specs.Lists.{Each, none, both}
 use Rattle.rows.specs.Program.{Result}
 use Rattle.rows.specs.Runs.{end, answers}
-use Rattle.rows.specs.Merges.{keepIf, share, MergeOf, endOf, answersOf, SeparateAll}
+use Rattle.rows.specs.Merges.{keep-if, share, MergeOf, end-of-turns, answers-of-turns, SeparateAll}
 
 -- What is asked of a step. `Of i r`: the call r is one of owner i's. `view i s` is what those calls can see of s; `rest s` is what no call changes.
 pub record Local {I S R A W : Type 0} {Seen : I → Type 0} (step : S → R → Result S A) (view : (i : I) → S → Seen i) (rest : S → W) (Inv : S → Type 0) (Of : I → R → Type 0) : Type 0 where
@@ -16,13 +16,13 @@ pub record Local {I S R A W : Type 0} {Seen : I → Type 0} (step : S → R → 
 
 -- What holds of every list's elements holds of every turn of their merge.
 module _ {I X : Type 0} (tell : Discrete I) (Of : I → X → Type 0) where
-  tail-of : (P : X → Type 0) {D : Type 0} (d : Dec D) (x : X) (l : List X) → Each P (keepIf d x l) → Each P l
-  unfolding keepIf
+  tail-of : (P : X → Type 0) {D : Type 0} (d : Dec D) (x : X) (l : List X) → Each P (keep-if d x l) → Each P l
+  unfolding keep-if
   tail-of P (yes e) x l (both q a) = a
   tail-of P (no n) x l a = a
 
-  head-of : (P : X → Type 0) {D : Type 0} (d : Dec D) (x : X) (l : List X) → D → Each P (keepIf d x l) → P x
-  unfolding keepIf
+  head-of : (P : X → Type 0) {D : Type 0} (d : Dec D) (x : X) (l : List X) → D → Each P (keep-if d x l) → P x
+  unfolding keep-if
   head-of P (yes e) x l h (both q a) = q
   head-of P (no n) x l h a = absurd (n h)
 
@@ -38,8 +38,8 @@ module _ {I S R A W : Type 0} {Seen : I → Type 0} (tell : Discrete I) (step : 
     (L : Local step view rest Inv Of) where
   -- From states that look the same to i: its answers in the merge, and its view at the end, are those of its calls alone.
   alone : (i : I) (s t : S) → Inv s → view i s ≡ view i t → {z : List (I × R)} → Each (λ turn. Of (turn .0) (turn .1)) z
-      → (share tell i (answersOf step s z) ≡ answers step t (share tell i z)) × (view i (endOf step s z) ≡ view i (end step t (share tell i z)))
-  unfolding share answersOf answers endOf end keepIf
+      → (share tell i (answers-of-turns step s z) ≡ answers step t (share tell i z)) × (view i (end-of-turns step s z) ≡ view i (end step t (share tell i z)))
+  unfolding share answers-of-turns answers end-of-turns end keep-if
   alone i s t v e none = (refl, e)
   alone i s t v e (both {x = p} {xs = z} o os) = go (tell (p .0) i) (λ u f. alone i next u (L .keeps s (p .0) (p .1) v o) f os)
     where
@@ -47,17 +47,17 @@ module _ {I S R A W : Type 0} {Seen : I → Type 0} (tell : Discrete I) (step : 
       next = step s (p .1) .state
 
       go : (d : Dec (p .0 ≡ i))
-          → ((u : S) → view i next ≡ view i u → (share tell i (answersOf step next z) ≡ answers step u (share tell i z)) × (view i (endOf step next z) ≡ view i (end step u (share tell i z))))
-          → (keepIf d (step s (p .1) .answer) (share tell i (answersOf step next z)) ≡ answers step t (keepIf d (p .1) (share tell i z)))
-          × (view i (endOf step next z) ≡ view i (end step t (keepIf d (p .1) (share tell i z))))
+          → ((u : S) → view i next ≡ view i u → (share tell i (answers-of-turns step next z) ≡ answers step u (share tell i z)) × (view i (end-of-turns step next z) ≡ view i (end step u (share tell i z))))
+          → (keep-if d (step s (p .1) .answer) (share tell i (answers-of-turns step next z)) ≡ answers step t (keep-if d (p .1) (share tell i z)))
+          × (view i (end-of-turns step next z) ≡ view i (end step t (keep-if d (p .1) (share tell i z))))
       go (yes h) then =
           let a = L .own s t i (p .1) v (subst (λ j. Of j (p .1)) h o) e in
           let b = then (step t (p .1) .state) (a .1) in
           (ap₂ (λ x l. x ∷ l) (a .0) (b .0), b .1)
       go (no h) then = then t (L .others s (p .0) (p .1) v o i h ∙ e)
 
-  rest-kept : (s : S) → Inv s → {z : List (I × R)} → Each (λ turn. Of (turn .0) (turn .1)) z → rest (endOf step s z) ≡ rest s
-  unfolding endOf
+  rest-kept : (s : S) → Inv s → {z : List (I × R)} → Each (λ turn. Of (turn .0) (turn .1)) z → rest (end-of-turns step s z) ≡ rest s
+  unfolding end-of-turns
   rest-kept s v none = refl
   rest-kept s v (both {x = p} o os) = rest-kept (step s (p .1) .state) (L .keeps s (p .0) (p .1) v o) os ∙ L .same-rest s (p .0) (p .1) v o
 
@@ -65,7 +65,7 @@ module _ {I S R A W : Type 0} {Seen : I → Type 0} (tell : Discrete I) (step : 
   separate s lists v o = record {
     answers-alone = λ z m i. alone i s s v refl (sent z m) .0 ∙ ap (answers step s) (m i);
     one-end = λ z u m n.
-        L .whole (endOf step s z) (endOf step s u)
+        L .whole (end-of-turns step s z) (end-of-turns step s u)
         (λ i. alone i s s v refl (sent z m) .1 ∙ (ap (λ l. view i (end step s l)) (m i ∙ sym (n i)) ∙ sym (alone i s s v refl (sent u n) .1)))
         (rest-kept s v (sent z m) ∙ sym (rest-kept s v (sent u n)));
   }

@@ -1,8 +1,8 @@
 -- Programs of owners that have no row in common, in any merge: a footprint is a view.
-use mathlib.Core.Path.{_≡_, refl, sym, _∙_, ap, subst, fun-ext}
+use mathlib.Core.Path.{_≡_, refl, sym, _∙_, ap, subst}
 use mathlib.Core.List.{List}
 use Rattle.lists.specs.Lists.{Each}
-use Rattle.rows.specs.Program.{Program, Result, Rows, run, State, stepOf}
+use Rattle.rows.specs.Program.{Program, Result, Rows, run, State, step-of}
 use Rattle.rows.specs.Merges.{SeparateAll}
 use Rattle.rows.proofs.Footprint.{Within, Closed, keeps-closed, outside, confined}
 use Rattle.rows.proofs.Local.{Local, separate}
@@ -11,7 +11,7 @@ use Rattle.rows.proofs.Local.{Local, separate}
 module _ {Key E R A I : Type 0} {Row : Key → Type 0} (tell : Discrete Key) (tell-owner : Discrete I) (Refs : (Key → Type 0) → (k : Key) → Row k → Type 0)
     (program : E → R → Program Key Row A) (step : State E Row → R → Result (State E Row) A) (part : Key → I) (Of : I → R → Type 0)
     (within : (i : I) (e : E) (r : R) → Of i r → Within Refs (λ k. part k ≡ i) (program e r))
-    (is-step : (i : I) (s : State E Row) (r : R) → Of i r → step s r ≡ stepOf tell program s r) where
+    (is-step : (i : I) (s : State E Row) (r : R) → Of i r → step s r ≡ step-of tell program s r) where
   abbrev Mine : I → Key → Type 0
   Mine i k = part k ≡ i
 
@@ -30,21 +30,21 @@ module _ {Key E R A I : Type 0} {Row : Key → Type 0} (tell : Discrete Key) (te
   same-view i e f m n p h = λ x. record { environment = p x; rows = λ k g. h k g x }
 
   module _ (s : State E Row) (i : I) (r : R) (c : Shut s) (o : Of i r) where
-    frame : (j : I) → (i ≡ j → ⊥) → (k : Key) → Mine j k → stepOf tell program s r .state .rows k ≡ s .rows k
-    unfolding stepOf
+    frame : (j : I) → (i ≡ j → ⊥) → (k : Key) → Mine j k → step-of tell program s r .state .rows k ≡ s .rows k
+    unfolding step-of
     frame j n k h = outside tell Refs (Mine i) (program (s .environment) r) (s .rows) (within i (s .environment) r o) (c i) k (λ g. n (sym g ∙ h))
 
-    keeps : Shut (stepOf tell program s r .state)
-    unfolding stepOf
+    keeps : Shut (step-of tell program s r .state)
+    unfolding step-of
     keeps j = elim (tell-owner i j) [
-      | yes p ↦ subst (λ h. Closed Refs (Mine h) (stepOf tell program s r .state .rows)) p
+      | yes p ↦ subst (λ h. Closed Refs (Mine h) (step-of tell program s r .state .rows)) p
           (keeps-closed tell Refs (Mine i) (program (s .environment) r) (s .rows) (within i (s .environment) r o) (c i))
       | no n ↦ λ k h. subst (Refs (Mine j) k) (sym (frame j n k h)) (c j k h)
     ]
 
     own : (t : State E Row) → view i s ≡ view i t
-        → (stepOf tell program s r .answer ≡ stepOf tell program t r .answer) × (view i (stepOf tell program s r .state) ≡ view i (stepOf tell program t r .state))
-    unfolding stepOf
+        → (step-of tell program s r .answer ≡ step-of tell program t r .answer) × (view i (step-of tell program s r .state) ≡ view i (step-of tell program t r .state))
+    unfolding step-of
     own t e =
         let a = subst
         (λ h. (run tell (program (s .environment) r) (s .rows) .answer ≡ run tell (program h r) (t .rows) .answer)
@@ -54,7 +54,7 @@ module _ {Key E R A I : Type 0} {Row : Key → Type 0} (tell : Discrete Key) (te
         (a .0, same-view i (s .environment) (t .environment) _ _ (ap (λ v. v .environment) e) (a .1))
 
   local : Local step view (λ s. s .environment) Shut Of
-  unfolding stepOf
+  unfolding step-of
   local = record {
     keeps = λ s i r c o. subst (λ z. Shut (z .state)) (sym (is-step i s r o)) (keeps s i r c o);
     own = λ s t i r c o e. rw (is-step i s r o, is-step i t r o) (own s i r c o t e);

@@ -1,8 +1,9 @@
 -- A program's run, step by step, and what every run of it can answer.
 use mathlib.Core.Path.{_≡_, refl}
 use mathlib.Core.Bool.{Bool, true, false, not}
+use mathlib.Core.List.{List, [], _∷_, map}
 use lib.Dec.{T}
-use Rattle.rows.specs.Program.{Program, return, get, put, if_then_else_, Result, Rows, update, run}
+use Rattle.rows.specs.Program.{Program, return, get, put, if_then_else_, get-each, Rows, update, run}
 
 module _ {Key : Type 0} {Row : Key → Type 0} {A : Type 0} (tell : Discrete Key) where
   pub run-return : (a : A) (m : Rows Row) → run {Row = Row} tell (return a) m ≡ record { state = m; answer = a }
@@ -27,6 +28,12 @@ module _ {Key : Type 0} {Row : Key → Type 0} {A : Type 0} (tell : Discrete Key
   run-no true p q m t = absurd t
   run-no false p q m t = refl
 
+  pub run-get-each : {N X : Type 0} (key : N → Key) (read : (n : N) → Row (key n) → X) (l : List N) (f : List X → Program Key Row A) (m : Rows Row)
+      → run tell (get-each key read l f) m ≡ run tell (f (map (λ n. read n (m (key n))) l)) m
+  unfolding run get-each
+  run-get-each key read [] f m = refl
+  run-get-each key read (n ∷ ns) f m = run-get-each key read ns (λ others. f (read n (m (key n)) ∷ others)) m
+
 -- Every answer of the program is so, whatever rows it reads.
 unfoldable pub Answers : {Key : Type 0} {Row : Key → Type 0} {A : Type 0} → (A → Type 0) → Program Key Row A → Type 0
 Answers P (return a) = P a
@@ -50,6 +57,11 @@ module _ {Key : Type 0} (Row : Key → Type 0) {A : Type 0} (P : A → Type 0) w
   pub answers-if : (b : Bool) (p q : Program Key Row A) → (T b → Answers P p) → (T (not b) → Answers P q) → Answers P (if b then p else q)
   unfolding Answers
   answers-if b p q g h = (g, h)
+
+  pub answers-get-each : {N X : Type 0} (key : N → Key) (read : (n : N) → Row (key n) → X) (l : List N) (f : List X → Program Key Row A) → ((xs : List X) → Answers P (f xs)) → Answers P (get-each key read l f)
+  unfolding Answers get-each
+  answers-get-each key read [] f h = h []
+  answers-get-each key read (n ∷ ns) f h = λ row. answers-get-each key read ns _ λ others. h (read n row ∷ others)
 
   pub run-answers : (tell : Discrete Key) (p : Program Key Row A) (m : Rows Row) → Answers P p → P (run tell p m .answer)
   unfolding run Answers

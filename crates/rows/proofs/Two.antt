@@ -6,15 +6,15 @@ use Rattle.lists.specs.Lists.{Each, none}
 use Rattle.rows.specs.Program.{Result}
 use Rattle.rows.specs.Runs.{end, answers}
 use Rattle.rows.specs.Merge.{Merge, done, left, right, Separate}
-use Rattle.rows.specs.Merges.{keepIf, share, MergeOf, endOf, answersOf, SeparateAll}
+use Rattle.rows.specs.Merges.{keep-if, share, MergeOf, end-of-turns, answers-of-turns, SeparateAll}
 
-keep-yes : {P X : Type 0} (d : Dec P) (x : X) (l : List X) → P → keepIf d x l ≡ x ∷ l
-unfolding keepIf
+keep-yes : {P X : Type 0} (d : Dec P) (x : X) (l : List X) → P → keep-if d x l ≡ x ∷ l
+unfolding keep-if
 keep-yes (yes p) x l h = refl
 keep-yes (no n) x l h = absurd (n h)
 
-keep-no : {P X : Type 0} (d : Dec P) (x : X) (l : List X) → (P → ⊥) → keepIf d x l ≡ l
-unfolding keepIf
+keep-no : {P X : Type 0} (d : Dec P) (x : X) (l : List X) → (P → ⊥) → keep-if d x l ≡ l
+unfolding keep-if
 keep-no (yes p) x l n = absurd (n p)
 keep-no (no n) x l h = refl
 
@@ -42,22 +42,22 @@ module _ {P Q X : Type 0} where
   choose-none (no n) (yes q) = refl
   choose-none (no n) (no q) = refl
 
-  choose-left : (p : Dec P) (q : Dec Q) (x : X) (l xs ys : List X) → l ≡ choose p q xs ys → keepIf p x l ≡ choose p q (x ∷ xs) ys
-  unfolding choose keepIf
+  choose-left : (p : Dec P) (q : Dec Q) (x : X) (l xs ys : List X) → l ≡ choose p q xs ys → keep-if p x l ≡ choose p q (x ∷ xs) ys
+  unfolding choose keep-if
   choose-left (yes p) q x l xs ys e = ap (λ k. x ∷ k) e
   choose-left (no n) (yes q) x l xs ys e = e
   choose-left (no n) (no q) x l xs ys e = e
 
-  choose-right : (p : Dec P) (q : Dec Q) (x : X) (l xs ys : List X) → (P → Q → ⊥) → l ≡ choose p q xs ys → keepIf q x l ≡ choose p q xs (x ∷ ys)
-  unfolding choose keepIf
+  choose-right : (p : Dec P) (q : Dec Q) (x : X) (l xs ys : List X) → (P → Q → ⊥) → l ≡ choose p q xs ys → keep-if q x l ≡ choose p q xs (x ∷ ys)
+  unfolding choose keep-if
   choose-right (yes p) (yes q) x l xs ys d e = absurd (d p q)
   choose-right (yes p) (no n) x l xs ys d e = e
   choose-right (no n) (yes q) x l xs ys d e = ap (λ k. x ∷ k) e
   choose-right (no n) (no q) x l xs ys d e = e
 
 -- Among the owners, a has the list xs, b the list ys, every other none.
-unfoldable pub twoLists : {I X : Type 0} (tell : Discrete I) (a b : I) → List X → List X → I → List X
-twoLists tell a b xs ys i = choose (tell a i) (tell b i) xs ys
+unfoldable pub two-lists : {I X : Type 0} (tell : Discrete I) (a b : I) → List X → List X → I → List X
+two-lists tell a b xs ys i = choose (tell a i) (tell b i) xs ys
 
 module _ {I : Type 0} (tell : Discrete I) (a b : I) (differ : a ≡ b → ⊥) where
   abbrev side : Bool → I
@@ -70,15 +70,15 @@ module _ {I : Type 0} (tell : Discrete I) (a b : I) (differ : a ≡ b → ⊥) w
   sided (t ∷ turns) [] = []
   sided (t ∷ turns) (z ∷ zs) = (side t, z) ∷ sided turns zs
 
-  merge-of : {X : Type 0} {turns : List Bool} {xs ys zs : List X} → Merge turns xs ys zs → MergeOf tell (twoLists tell a b xs ys) (sided turns zs)
-  unfolding sided share twoLists
+  merge-of : {X : Type 0} {turns : List Bool} {xs ys zs : List X} → Merge turns xs ys zs → MergeOf tell (two-lists tell a b xs ys) (sided turns zs)
+  unfolding sided share two-lists
   merge-of done i = choose-none (tell a i) (tell b i)
   merge-of (left {x = x} m) i = choose-left (tell a i) (tell b i) x _ _ _ (merge-of m i)
   merge-of (right {y = y} m) i = choose-right (tell a i) (tell b i) y _ _ _ (λ p q. differ (p ∙ sym q)) (merge-of m i)
 
   -- What holds of the two lists' elements holds of every owner's.
-  pub each-list : {X : Type 0} (Of : I → X → Type 0) {xs ys : List X} → Each (Of a) xs → Each (Of b) ys → (i : I) → Each (Of i) (twoLists tell a b xs ys i)
-  unfolding twoLists choose
+  pub each-list : {X : Type 0} (Of : I → X → Type 0) {xs ys : List X} → Each (Of a) xs → Each (Of b) ys → (i : I) → Each (Of i) (two-lists tell a b xs ys i)
+  unfolding two-lists choose
   each-list Of {xs} {ys} p q i = go (tell a i) (tell b i)
     where
       go : (d : Dec (a ≡ i)) (e : Dec (b ≡ i)) → Each (Of i) (choose d e xs ys)
@@ -87,8 +87,8 @@ module _ {I : Type 0} (tell : Discrete I) (a b : I) (differ : a ≡ b → ⊥) w
       go (no n) (no h) = none
 
   -- What holds of a and of b holds of every owner that has calls.
-  pub each-caller : {X : Type 0} (P : I → Type 0) (xs ys : List X) → P a → P b → (i : I) → (twoLists tell a b xs ys i ≡ [] → ⊥) → P i
-  unfolding twoLists choose
+  pub each-caller : {X : Type 0} (P : I → Type 0) (xs ys : List X) → P a → P b → (i : I) → (two-lists tell a b xs ys i ≡ [] → ⊥) → P i
+  unfolding two-lists choose
   each-caller P xs ys p q i = go (tell a i) (tell b i)
     where
       go : (d : Dec (a ≡ i)) (e : Dec (b ≡ i)) → (choose d e xs ys ≡ [] → ⊥) → P i
@@ -97,26 +97,26 @@ module _ {I : Type 0} (tell : Discrete I) (a b : I) (differ : a ≡ b → ⊥) w
       go (no n) (no h) f = absurd (f refl)
 
   module _ {S R A : Type 0} (step : S → R → Result S A) where
-    same-end : {turns : List Bool} {xs ys zs : List R} → Merge turns xs ys zs → (s : S) → endOf step s (sided turns zs) ≡ end step s zs
-    unfolding sided endOf end
+    same-end : {turns : List Bool} {xs ys zs : List R} → Merge turns xs ys zs → (s : S) → end-of-turns step s (sided turns zs) ≡ end step s zs
+    unfolding sided end-of-turns end
     same-end done s = refl
     same-end (left {x = x} m) s = same-end m (step s x .state)
     same-end (right {y = y} m) s = same-end m (step s y .state)
 
     split : {turns : List Bool} {xs ys zs : List R} → Merge turns xs ys zs → (s : S)
-        → Merge turns (share tell a (answersOf step s (sided turns zs))) (share tell b (answersOf step s (sided turns zs))) (answers step s zs)
-    unfolding sided answersOf answers share
+        → Merge turns (share tell a (answers-of-turns step s (sided turns zs))) (share tell b (answers-of-turns step s (sided turns zs))) (answers step s zs)
+    unfolding sided answers-of-turns answers share
     split done s = done
     split (left {x = x} m) s = rw (keep-yes (tell a a) _ _ refl, keep-no (tell a b) _ _ differ) (left (split m (step s x .state)))
     split (right {y = y} m) s = rw (keep-yes (tell b b) _ _ refl, keep-no (tell b a) _ _ (λ e. differ (sym e))) (right (split m (step s y .state)))
 
-    pub two-of : (s : S) (xs ys : List R) → SeparateAll tell step s (twoLists tell a b xs ys) → Separate step s xs ys
-    unfolding twoLists
+    pub two-of : (s : S) (xs ys : List R) → SeparateAll tell step s (two-lists tell a b xs ys) → Separate step s xs ys
+    unfolding two-lists
     two-of s xs ys h = record {
       answers-alone = λ turns zs m.
           let all = h .answers-alone _ (merge-of m) in
           subst (λ l. Merge turns l (answers step s ys) (answers step s zs)) (all a ∙ ap (answers step s) (choose-first (tell a a) (tell b a) xs ys refl))
-          (subst (λ l. Merge turns (share tell a (answersOf step s (sided turns zs))) l (answers step s zs))
+          (subst (λ l. Merge turns (share tell a (answers-of-turns step s (sided turns zs))) l (answers step s zs))
           (all b ∙ ap (answers step s) (choose-second (tell a b) (tell b b) xs ys differ refl))
           (split m s));
       one-end = λ turns turns′ zs zs′ m n. sym (same-end m s) ∙ (h .one-end _ _ (merge-of m) (merge-of n) ∙ same-end n s);

@@ -1,6 +1,7 @@
 -- Programs over rows. A state is a table of rows, each found by its key; a program reads rows, writes rows, goes by tests and returns an answer.
-use mathlib.Core.Path.{_≡_, subst⁻¹}
+use mathlib.Core.Path.{subst⁻¹}
 use mathlib.Core.Bool.{Bool, true, false}
+use mathlib.Core.List.{List, [], _∷_}
 
 infix 5 if_then_else_
 pub data Program (Key : Type 0) (Row : Key → Type 0) (A : Type 0) : Type 0 where
@@ -16,6 +17,14 @@ module _ {Key : Type 0} {Row : Key → Type 0} {A : Type 0} where
 
   abbrev pub _>>_ : (Program Key Row A → Program Key Row A) → Program Key Row A → Program Key Row A
   _>>_ action rest = action rest
+
+-- What is read off each of these rows, in order.
+unfoldable pub get-each : {Key : Type 0} {Row : Key → Type 0} {N X A : Type 0} (key : N → Key) → ((n : N) → Row (key n) → X) → List N → (List X → Program Key Row A) → Program Key Row A
+get-each key read [] rest = rest []
+get-each key read (n ∷ ns) rest = do
+  row ← get (key n)
+  others ← get-each key read ns
+  rest (read n row ∷ others)
 
 -- The state that a step leaves, and its answer.
 pub record Result (S A : Type 0) : Type 0 where
@@ -45,7 +54,7 @@ pub record State (E : Type 0) {Key : Type 0} (Row : Key → Type 0) : Type 0 whe
 
 -- A call as a step: its program in that environment, run on the rows.
 module _ {Key E R A : Type 0} {Row : Key → Type 0} (tell : Discrete Key) (program : E → R → Program Key Row A) where
-  unfoldable pub stepOf : State E Row → R → Result (State E Row) A
-  stepOf s r =
+  unfoldable pub step-of : State E Row → R → Result (State E Row) A
+  step-of s r =
       let o = run tell (program (s .environment) r) (s .rows) in
       record { state = record { environment = s .environment; rows = o .state }; answer = o .answer }
