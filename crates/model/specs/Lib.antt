@@ -1,3 +1,4 @@
+-- The definition in document 01's order, and the statements about it. `Open` only opens definitions for proofs that compute.
 pub mod Sizes
 pub mod Rows
 pub mod Codes
@@ -10,6 +11,6 @@ pub mod Mailboxes
 pub mod Tasks
 pub mod Step
 pub mod Refusals
-pub mod SixteenRuns
 pub mod Isolation
+pub mod SixteenRuns
 pub mod Open
