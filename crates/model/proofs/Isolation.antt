@@ -92,7 +92,7 @@ beside-each {X = X} {P = P} {Q = Q} l h (both q e) = let p : P = h cons≢nil in
 
 pub isolation-of-many : IsolationOfMany
 isolation-of-many I tell-owner m linked o lists placed own =
-    separate-programs tell tell-owner Refs program step (part o (m .rows)) Of
+    separate-programs tell tell-owner Refs program step (part o (m .rows)) Of (λ a. Unit)
     (λ i e c h. in-program (λ k. part o (m .rows) k ≡ i) e c (each-map (λ k g t. part-own o (m .rows) i (h .0) k (g t)) (h .1 .own-names)))
     (λ i s c h. step-call s c (h .1 .no-tick))
     m lists (part-closed o (m .rows) linked) (λ i. beside-each (lists i) (placed i) (own i))

@@ -1,4 +1,4 @@
--- A program within a set of rows leaves the rows outside alone and goes by nothing outside: by induction on programs.
+-- A program within a set of rows leaves the rows outside alone and goes by nothing outside, and its answers are what its ends say: by induction on programs.
 use mathlib.Core.Path.{_≡_, refl, sym, _∙_, subst}
 use mathlib.Core.Bool.{Bool, true, false, not}
 use mathlib.Core.List.{List, [], _∷_}
@@ -8,47 +8,55 @@ use Rattle.rows.specs.Program.{Program, return, get, put, if_then_else_,
 use Rattle.rows.proofs.Update.{update-cases, update-other, update-agree}
 
 -- `Refs S k v`: whatever the row v at key k names lies in S.
--- A program is within S where it touches rows of S alone, and writes no row that names one outside; of a row that it reads it knows the same.
-module _ {Key : Type 0} {Row : Key → Type 0} (Refs : (Key → Type 0) → (k : Key) → Row k → Type 0) (S : Key → Type 0) where
-  unfoldable pub Within : {A : Type 0} → Program Key Row A → Type 0
-  Within (return a) = Unit
+-- A program is within S and answers P where it touches rows of S alone, writes no row that names one outside, and returns only what P holds of.
+-- Of a row that it reads it knows that it names none outside.
+module _ {Key : Type 0} {Row : Key → Type 0} {A : Type 0} (Refs : (Key → Type 0) → (k : Key) → Row k → Type 0) (S : Key → Type 0) (P : A → Type 0) where
+  unfoldable pub Within : Program Key Row A → Type 0
+  Within (return a) = P a
   Within (get k f) = S k × ((v : Row k) → Refs S k v → Within (f v))
   Within (put k v p) = S k × Refs S k v × Within p
   Within (if b then p else q) = (T b → Within p) × (T (not b) → Within q)
 
-  -- The rows of S name nothing outside S.
-  abbrev pub Closed : Rows Row → Type 0
-  Closed m = (k : Key) → S k → Refs S k (m k)
+  pub in-return : (a : A) → P a → Within (return a)
+  unfolding Within
+  in-return a h = h
 
-  module _ {A : Type 0} where
-    pub in-return : (a : A) → Within (return a)
-    unfolding Within
-    in-return a = tt
+  pub in-get : (k : Key) (f : Row k → Program Key Row A) → S k → ((v : Row k) → Refs S k v → Within (f v)) → Within (get k f)
+  unfolding Within
+  in-get k f s h = (s, h)
 
-    pub in-get : (k : Key) (f : Row k → Program Key Row A) → S k → ((v : Row k) → Refs S k v → Within (f v)) → Within (get k f)
-    unfolding Within
-    in-get k f s h = (s, h)
+  pub in-put : (k : Key) (v : Row k) (p : Program Key Row A) → S k → Refs S k v → Within p → Within (put k v p)
+  unfolding Within
+  in-put k v p s r h = (s, r, h)
 
-    pub in-put : (k : Key) (v : Row k) (p : Program Key Row A) → S k → Refs S k v → Within p → Within (put k v p)
-    unfolding Within
-    in-put k v p s r h = (s, r, h)
+  pub in-if : (b : Bool) (p q : Program Key Row A) → (T b → Within p) → (T (not b) → Within q) → Within (if b then p else q)
+  unfolding Within
+  in-if b p q g h = (g, h)
 
-    pub in-get-each : {N X : Type 0} (key : N → Key) (read : (n : N) → Row (key n) → X) (l : List N) (f : List X → Program Key Row A)
-        → Each (λ n. S (key n)) l → ((xs : List X) → Within (f xs)) → Within (get-each key read l f)
-    unfolding Within get-each
-    in-get-each key read [] f none h = h []
-    in-get-each key read (n ∷ ns) f (both s e) h = (s, λ row r. in-get-each key read ns (λ others. f (read n row ∷ others)) e (λ others. h (read n row ∷ others)))
+  pub in-get-each : {N X : Type 0} (key : N → Key) (read : (n : N) → Row (key n) → X) (l : List N) (f : List X → Program Key Row A)
+      → Each (λ n. S (key n)) l → ((xs : List X) → Within (f xs)) → Within (get-each key read l f)
+  unfolding Within get-each
+  in-get-each key read [] f none h = h []
+  in-get-each key read (n ∷ ns) f (both s e) h = (s, λ row r. in-get-each key read ns (λ others. f (read n row ∷ others)) e (λ others. h (read n row ∷ others)))
 
-    pub in-if : (b : Bool) (p q : Program Key Row A) → (T b → Within p) → (T (not b) → Within q) → Within (if b then p else q)
-    unfolding Within
-    in-if b p q g h = (g, h)
+-- The rows of S name nothing outside S.
+abbrev pub Closed : {Key : Type 0} {Row : Key → Type 0} (Refs : (Key → Type 0) → (k : Key) → Row k → Type 0) (S : Key → Type 0) → Rows Row → Type 0
+Closed {Key = Key} Refs S m = (k : Key) → S k → Refs S k (m k)
+
+module _ {Key : Type 0} {Row : Key → Type 0} {A : Type 0} (Refs : (Key → Type 0) → (k : Key) → Row k → Type 0) (S : Key → Type 0) (P Q : A → Type 0) where
+  pub within-map : ((a : A) → P a → Q a) → (p : Program Key Row A) → Within Refs S P p → Within Refs S Q p
+  unfolding Within
+  within-map g (return a) w = g a w
+  within-map g (get k f) w = (w .0, λ v r. within-map g (f v) (w .1 v r))
+  within-map g (put k v p) w = (w .0, w .1, within-map g p (w .2))
+  within-map g (if b then p else q) w = (λ t. within-map g p (w .0 t), λ t. within-map g q (w .1 t))
 
 module _ {Key : Type 0} {Row : Key → Type 0} (tell : Discrete Key) (Refs : (Key → Type 0) → (k : Key) → Row k → Type 0) (S : Key → Type 0) where
   update-closed : (k : Key) (v : Row k) (m : Rows Row) → Refs S k v → Closed Refs S m → Closed Refs S (update tell k v m)
   update-closed k v m r c j = update-cases tell (λ i w. S i → Refs S i w) k v m (λ s. r) j (λ n. c j)
 
-  module _ {A : Type 0} where
-    pub keeps-closed : (p : Program Key Row A) (m : Rows Row) → Within Refs S p → Closed Refs S m → Closed Refs S (run tell p m .state)
+  module _ {A : Type 0} (P : A → Type 0) where
+    pub keeps-closed : (p : Program Key Row A) (m : Rows Row) → Within Refs S P p → Closed Refs S m → Closed Refs S (run tell p m .state)
     unfolding run Within
     keeps-closed (return a) m w c = c
     keeps-closed (get k f) m w c = keeps-closed (f (m k)) m (w .1 (m k) (c k (w .0))) c
@@ -56,8 +64,16 @@ module _ {Key : Type 0} {Row : Key → Type 0} (tell : Discrete Key) (Refs : (Ke
     keeps-closed (if true then p else q) m w c = keeps-closed p m (w .0 tt) c
     keeps-closed (if false then p else q) m w c = keeps-closed q m (w .1 tt) c
 
+    pub answer-is : (p : Program Key Row A) (m : Rows Row) → Within Refs S P p → Closed Refs S m → P (run tell p m .answer)
+    unfolding run Within
+    answer-is (return a) m w c = w
+    answer-is (get k f) m w c = answer-is (f (m k)) m (w .1 (m k) (c k (w .0))) c
+    answer-is (put k v p) m w c = answer-is p (update tell k v m) (w .2) (update-closed k v m (w .1) c)
+    answer-is (if true then p else q) m w c = answer-is p m (w .0 tt) c
+    answer-is (if false then p else q) m w c = answer-is q m (w .1 tt) c
+
     -- A row outside S is left as it was.
-    pub outside : (p : Program Key Row A) (m : Rows Row) → Within Refs S p → Closed Refs S m → (j : Key) → (S j → ⊥) → run tell p m .state j ≡ m j
+    pub outside : (p : Program Key Row A) (m : Rows Row) → Within Refs S P p → Closed Refs S m → (j : Key) → (S j → ⊥) → run tell p m .state j ≡ m j
     unfolding run Within
     outside (return a) m w c j n = refl
     outside (get k f) m w c j n = outside (f (m k)) m (w .1 (m k) (c k (w .0))) c j n
@@ -68,7 +84,7 @@ module _ {Key : Type 0} {Row : Key → Type 0} (tell : Discrete Key) (Refs : (Ke
     outside (if false then p else q) m w c j n = outside q m (w .1 tt) c j n
 
     -- From tables that agree on S: the same answer, and tables that agree on S.
-    pub confined : (p : Program Key Row A) (m n : Rows Row) → Within Refs S p → Closed Refs S m → ((k : Key) → S k → m k ≡ n k)
+    pub confined : (p : Program Key Row A) (m n : Rows Row) → Within Refs S P p → Closed Refs S m → ((k : Key) → S k → m k ≡ n k)
         → (run tell p m .answer ≡ run tell p n .answer) × ((k : Key) → S k → run tell p m .state k ≡ run tell p n .state k)
     unfolding run Within
     confined (return a) m n w c e = (refl, e)

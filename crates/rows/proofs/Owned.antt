@@ -10,7 +10,7 @@ use Rattle.rows.proofs.Local.{Local, separate}
 -- `part k` is the owner whose part row k is. A call of owner i stays within the rows of that part. `step` is the program's step, for the calls that are somebody's.
 module _ {Key E R A I : Type 0} {Row : Key → Type 0} (tell : Discrete Key) (tell-owner : Discrete I) (Refs : (Key → Type 0) → (k : Key) → Row k → Type 0)
     (program : E → R → Program Key Row A) (step : State E Row → R → Result (State E Row) A) (part : Key → I) (Of : I → R → Type 0)
-    (within : (i : I) (e : E) (r : R) → Of i r → Within Refs (λ k. part k ≡ i) (program e r))
+    (P : A → Type 0) (within : (i : I) (e : E) (r : R) → Of i r → Within Refs (λ k. part k ≡ i) P (program e r))
     (is-step : (i : I) (s : State E Row) (r : R) → Of i r → step s r ≡ step-of tell program s r) where
   abbrev Mine : I → Key → Type 0
   Mine i k = part k ≡ i
@@ -32,13 +32,13 @@ module _ {Key E R A I : Type 0} {Row : Key → Type 0} (tell : Discrete Key) (te
   module _ (s : State E Row) (i : I) (r : R) (c : Shut s) (o : Of i r) where
     frame : (j : I) → (i ≡ j → ⊥) → (k : Key) → Mine j k → step-of tell program s r .state .rows k ≡ s .rows k
     unfolding step-of
-    frame j n k h = outside tell Refs (Mine i) (program (s .environment) r) (s .rows) (within i (s .environment) r o) (c i) k (λ g. n (sym g ∙ h))
+    frame j n k h = outside tell Refs (Mine i) P (program (s .environment) r) (s .rows) (within i (s .environment) r o) (c i) k (λ g. n (sym g ∙ h))
 
     keeps : Shut (step-of tell program s r .state)
     unfolding step-of
     keeps j = elim (tell-owner i j) [
       | yes p ↦ subst (λ h. Closed Refs (Mine h) (step-of tell program s r .state .rows)) p
-          (keeps-closed tell Refs (Mine i) (program (s .environment) r) (s .rows) (within i (s .environment) r o) (c i))
+          (keeps-closed tell Refs (Mine i) P (program (s .environment) r) (s .rows) (within i (s .environment) r o) (c i))
       | no n ↦ λ k h. subst (Refs (Mine j) k) (sym (frame j n k h)) (c j k h)
     ]
 
@@ -50,7 +50,7 @@ module _ {Key E R A I : Type 0} {Row : Key → Type 0} (tell : Discrete Key) (te
         (λ h. (run tell (program (s .environment) r) (s .rows) .answer ≡ run tell (program h r) (t .rows) .answer)
         × ((k : Key) → Mine i k → run tell (program (s .environment) r) (s .rows) .state k ≡ run tell (program h r) (t .rows) .state k))
         (ap (λ v. v .environment) e)
-        (confined tell Refs (Mine i) (program (s .environment) r) (s .rows) (t .rows) (within i (s .environment) r o) (c i) (λ k h. ap (λ v. v .rows k h) e)) in
+        (confined tell Refs (Mine i) P (program (s .environment) r) (s .rows) (t .rows) (within i (s .environment) r o) (c i) (λ k h. ap (λ v. v .rows k h) e)) in
         (a .0, same-view i (s .environment) (t .environment) _ _ (ap (λ v. v .environment) e) (a .1))
 
   local : Local step view (λ s. s .environment) Shut Of
