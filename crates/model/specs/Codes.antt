@@ -9,7 +9,7 @@ use Rattle.model.specs.declared.Outcome.the-variants.{Finished, Waits}
 pub use Rattle.model.specs.declared.Code.{Code}
 pub use Rattle.model.specs.declared.Code.the-variants.{Ok as E-OK, Sys as E-SYS, Par as E-PAR, Id as E-ID, Ctx as E-CTX, Iluse as E-ILUSE, Obj as E-OBJ, Noexs as E-NOEXS, Qovr as E-QOVR, Rlwai as E-RLWAI, Tmout as E-TMOUT, Dlt as E-DLT}
 
-abbrev minus : ℕ → ℤ
+abbrev pub minus : ℕ → ℤ
 minus n = negℤ (pos n)
 
 -- The number of each code.
@@ -36,6 +36,17 @@ kind (Waits place) = 1
 abbrev pub code-or-place : Outcome → ℤ
 code-or-place (Finished code) = number code
 code-or-place (Waits place) = pos place
+
+-- An answer in document 01's numbers.
+pub record Values : Type 0 where
+  pub kind : ℕ
+  pub code-or-place : ℤ
+  pub a : ℕ
+  pub b : ℕ
+  pub c : ℕ
+
+abbrev pub values : Answer → Values
+values x = record { kind = kind (x .outcome); code-or-place = code-or-place (x .outcome); a = x .a; b = x .b; c = x .c }
 
 abbrev pub finished : Code → ℕ → ℕ → ℕ → Answer
 finished code a b c = record { outcome = Finished code; a = a; b = b; c = c }

@@ -6,10 +6,9 @@ use Prim.Native.Nat.{ℕ}
 use lib.IntN.{ℤ, pos, negsuc}
 use Rattle.rows.specs.Runs.{end, answers}
 use Rattle.model.specs.Rows.{Model, empty-state}
-use Rattle.model.specs.Codes.{Code, E-OK, E-SYS, E-PAR, E-ID, E-CTX, E-ILUSE, E-OBJ, E-NOEXS, E-RLWAI, E-TMOUT, E-DLT, finished, waits}
+use Rattle.model.specs.Codes.{Values, values, minus}
 use Rattle.model.specs.Calls.{Call}
 use Rattle.model.specs.Step.{step}
-use Rattle.model.specs.declared.Answer.{Answer}
 
 -- ── Callers and calls, as the runs write them: nothing is locked or disabled ──
 
@@ -93,33 +92,66 @@ look t = plain 22 H t 0
 abbrev fetch : ℕ → Call
 fetch t = plain 23 H t 0
 
--- ── Answers ──
+-- ── Answers, in document 01's numbers ──
 
-abbrev ok : Answer
-ok = finished E-OK 0 0 0
+abbrev answer : ℕ → ℤ → ℕ → ℕ → ℕ → Values
+answer kind code-or-place a b c = record { kind = kind; code-or-place = code-or-place; a = a; b = b; c = c }
 
-abbrev gives : ℕ → Answer
-gives a = finished E-OK a 0 0
+abbrev says : ℕ → ℕ → ℕ → Values
+says a b c = answer 0 (pos 0) a b c
 
-abbrev says : ℕ → ℕ → ℕ → Answer
-says a b c = finished E-OK a b c
+abbrev ok : Values
+ok = says 0 0 0
 
-abbrev code : Code → Answer
-code e = finished e 0 0 0
+abbrev gives : ℕ → Values
+gives a = says a 0 0
 
 -- Waits, at this place.
-abbrev W : ℕ → Answer
-W place = waits place
+abbrev W : ℕ → Values
+W place = answer 1 (pos place) 0 0 0
+
+abbrev code : ℕ → Values
+code n = answer 0 (minus n) 0 0 0
+
+abbrev E-SYS : Values
+E-SYS = code 5
+
+abbrev E-PAR : Values
+E-PAR = code 17
+
+abbrev E-ID : Values
+E-ID = code 18
+
+abbrev E-CTX : Values
+E-CTX = code 25
+
+abbrev E-ILUSE : Values
+E-ILUSE = code 28
+
+abbrev E-OBJ : Values
+E-OBJ = code 41
+
+abbrev E-NOEXS : Values
+E-NOEXS = code 42
+
+abbrev E-RLWAI : Values
+E-RLWAI = code 49
+
+abbrev E-TMOUT : Values
+E-TMOUT = code 50
+
+abbrev E-DLT : Values
+E-DLT = code 51
 
 -- ── The table ──
 
 -- A call, and what it answers.
 pub record Line : Type 0 where
   pub asked : Call
-  pub given : Answer
+  pub given : Values
 
 infix 68 _⇒_
-abbrev _⇒_ : Call → Answer → Line
+abbrev _⇒_ : Call → Values → Line
 asked ⇒ given = record { asked = asked; given = given }
 
 -- The counter at the start, the lines, and the counter that they leave.
@@ -140,7 +172,7 @@ setting =
 unfoldable pub sixteen : List Run
 sixteen =
     -- 1
-    run (snd T1 1 10 ⇒ ok ∷ snd T1 1 11 ⇒ ok ∷ prcv T2 1 ⇒ gives 10 ∷ prcv T2 1 ⇒ gives 11 ∷ prcv T2 1 ⇒ code E-TMOUT ∷ [])
+    run (snd T1 1 10 ⇒ ok ∷ snd T1 1 11 ⇒ ok ∷ prcv T2 1 ⇒ gives 10 ∷ prcv T2 1 ⇒ gives 11 ∷ prcv T2 1 ⇒ E-TMOUT ∷ [])
     -- 2
     ∷ run (snd T1 1 10 ⇒ ok ∷ snd T1 1 11 ⇒ ok ∷ snd T1 1 12 ⇒ W 0 ∷ prcv T2 1 ⇒ gives 10 ∷ fetch 1 ⇒ ok ∷ ref 1 ⇒ says 0 0 2
     ∷ prcv H 1 ⇒ gives 11 ∷ prcv H 1 ⇒ gives 12 ∷ [])
@@ -150,34 +182,34 @@ sixteen =
     ∷ run (snd T1 1 10 ⇒ ok ∷ snd T1 1 11 ⇒ ok ∷ snd T1 1 12 ⇒ W 0 ∷ fsnd T2 1 13 ⇒ ok ∷ ref 1 ⇒ says 1 0 2
     ∷ prcv T2 1 ⇒ gives 11 ∷ prcv T2 1 ⇒ gives 13 ∷ prcv T2 1 ⇒ gives 12 ∷ [])
     -- 5
-    ∷ run (psnd T1 2 1 ⇒ code E-TMOUT ∷ fsnd H 2 1 ⇒ code E-ILUSE ∷ [])
+    ∷ run (psnd T1 2 1 ⇒ E-TMOUT ∷ fsnd H 2 1 ⇒ E-ILUSE ∷ [])
     -- 6
     ∷ run (rcv T3 2 ⇒ W 0 ∷ fsnd T1 2 7 ⇒ ok ∷ fetch 3 ⇒ gives 7 ∷ [])
     -- 7
     ∷ run (snd T1 2 1 ⇒ W 0 ∷ snd T3 2 3 ⇒ W 1 ∷ snd T2 2 2 ⇒ W 0 ∷ ref 2 ⇒ says 2 0 0
     ∷ prcv T4 2 ⇒ gives 2 ∷ prcv T4 2 ⇒ gives 1 ∷ prcv T4 2 ⇒ gives 3 ∷ [])
     -- 8
-    ∷ run (rcv T1 2 ⇒ W 0 ∷ rcv T2 2 ⇒ W 1 ∷ psnd T3 2 9 ⇒ ok ∷ fetch 1 ⇒ gives 9 ∷ fetch 2 ⇒ code E-OBJ ∷ [])
+    ∷ run (rcv T1 2 ⇒ W 0 ∷ rcv T2 2 ⇒ W 1 ∷ psnd T3 2 9 ⇒ ok ∷ fetch 1 ⇒ gives 9 ∷ fetch 2 ⇒ E-OBJ ∷ [])
     -- 9
-    ∷ run (snd T1 1 10 ⇒ ok ∷ snd T1 1 11 ⇒ ok ∷ snd T1 1 12 ⇒ W 0 ∷ rel-wai 1 ⇒ ok ∷ fetch 1 ⇒ code E-RLWAI
-    ∷ prcv T2 1 ⇒ gives 10 ∷ prcv T2 1 ⇒ gives 11 ∷ prcv T2 1 ⇒ code E-TMOUT ∷ [])
+    ∷ run (snd T1 1 10 ⇒ ok ∷ snd T1 1 11 ⇒ ok ∷ snd T1 1 12 ⇒ W 0 ∷ rel-wai 1 ⇒ ok ∷ fetch 1 ⇒ E-RLWAI
+    ∷ prcv T2 1 ⇒ gives 10 ∷ prcv T2 1 ⇒ gives 11 ∷ prcv T2 1 ⇒ E-TMOUT ∷ [])
     -- 10
-    ∷ record { from = 0; leaves = 2; lines = trcv T1 1 (pos 2) ⇒ W 0 ∷ ticks ⇒ gives 0 ∷ ticks ⇒ gives 1 ∷ fetch 1 ⇒ code E-TMOUT ∷ [] }
+    ∷ record { from = 0; leaves = 2; lines = trcv T1 1 (pos 2) ⇒ W 0 ∷ ticks ⇒ gives 0 ∷ ticks ⇒ gives 1 ∷ fetch 1 ⇒ E-TMOUT ∷ [] }
     -- 11
-    ∷ record { from = 4294967294; leaves = 0; lines = trcv T1 1 (pos 2) ⇒ W 0 ∷ ticks ⇒ gives 0 ∷ ticks ⇒ gives 1 ∷ fetch 1 ⇒ code E-TMOUT ∷ [] }
+    ∷ record { from = 4294967294; leaves = 0; lines = trcv T1 1 (pos 2) ⇒ W 0 ∷ ticks ⇒ gives 0 ∷ ticks ⇒ gives 1 ∷ fetch 1 ⇒ E-TMOUT ∷ [] }
     -- 12
     ∷ run (snd-mbx T1 1 5 3 ⇒ gives 0 ∷ snd-mbx T1 1 6 1 ⇒ gives 0 ∷ snd-mbx T1 1 7 3 ⇒ gives 2
     ∷ prcv-mbx T2 1 ⇒ gives 6 ∷ prcv-mbx T2 1 ⇒ gives 5 ∷ prcv-mbx T2 1 ⇒ gives 7 ∷ [])
     -- 13
-    ∷ run (snd-mbx H 1 5 0 ⇒ code E-PAR ∷ snd-mbx H 1 5 5 ⇒ code E-PAR ∷ snd-mbx H 1 5 4 ⇒ ok ∷ snd-mbx H 1 5 4 ⇒ code E-OBJ
+    ∷ run (snd-mbx H 1 5 0 ⇒ E-PAR ∷ snd-mbx H 1 5 5 ⇒ E-PAR ∷ snd-mbx H 1 5 4 ⇒ ok ∷ snd-mbx H 1 5 4 ⇒ E-OBJ
     ∷ prcv-mbx H 1 ⇒ gives 5 ∷ snd-mbx H 1 5 4 ⇒ ok ∷ [])
     -- 14
-    ∷ run (snd T1 2 1 ⇒ W 0 ∷ del-dtq T2 2 ⇒ ok ∷ fetch 1 ⇒ code E-DLT ∷ ref 2 ⇒ code E-NOEXS ∷ [])
+    ∷ run (snd T1 2 1 ⇒ W 0 ∷ del-dtq T2 2 ⇒ ok ∷ fetch 1 ⇒ E-DLT ∷ ref 2 ⇒ E-NOEXS ∷ [])
     -- 15
-    ∷ run (rcv T3 1 ⇒ W 0 ∷ sus-tsk 3 ⇒ ok ∷ snd T1 1 8 ⇒ ok ∷ look 3 ⇒ says 0 0 1 ∷ snd T3 1 1 ⇒ code E-SYS
+    ∷ run (rcv T3 1 ⇒ W 0 ∷ sus-tsk 3 ⇒ ok ∷ snd T1 1 8 ⇒ ok ∷ look 3 ⇒ says 0 0 1 ∷ snd T3 1 1 ⇒ E-SYS
     ∷ rsm-tsk 3 ⇒ ok ∷ fetch 3 ⇒ gives 8 ∷ [])
     -- 16
-    ∷ run (trcv H 99 (negsuc 1) ⇒ code E-CTX ∷ trcv T1 99 (negsuc 1) ⇒ code E-ID ∷ trcv T1 3 (negsuc 1) ⇒ code E-PAR ∷ trcv T1 3 (pos 0) ⇒ code E-NOEXS ∷ [])
+    ∷ run (trcv H 99 (negsuc 1) ⇒ E-CTX ∷ trcv T1 99 (negsuc 1) ⇒ E-ID ∷ trcv T1 3 (negsuc 1) ⇒ E-PAR ∷ trcv T1 3 (pos 0) ⇒ E-NOEXS ∷ [])
     ∷ []
 
 -- ── The statement ──
@@ -189,11 +221,11 @@ abbrev pub asked : Run → List Call
 asked r = map (λ line. line .asked) (r .lines)
 
 -- What the definition answers, and the counter that it leaves.
-abbrev pub played : Run → List Answer × ℕ
-played r = (answers step (start (r .from)) (asked r), end step (start (r .from)) (asked r) .environment .counter)
+abbrev pub played : Run → List Values × ℕ
+played r = (map values (answers step (start (r .from)) (asked r)), end step (start (r .from)) (asked r) .environment .counter)
 
 -- What document 01 writes.
-abbrev pub written : Run → List Answer × ℕ
+abbrev pub written : Run → List Values × ℕ
 written r = (map (λ line. line .given) (r .lines), r .leaves)
 
 abbrev pub SixteenRuns : Type 0
