@@ -2,14 +2,16 @@
 use mathlib.Core.Bool.{Bool, true, false, not, _&&_, _||_, cond}
 use mathlib.Core.List.{List, [], _∷_}
 use Prim.Native.Nat.{ℕ}
+use native.Mathlib.Nat.{pos-of-ne-zero}
 use lib.Dec.{T, eqb, leb, ltb, le→leb, nltb→le}
+use mir.Facts.{T-not-not, yes-and, eqb-no}
 use Rattle.lists.specs.Lists.{Each, none, both}
 use Rattle.model.specs.Sizes.{task-limit}
 use Rattle.model.specs.Rows.{Key, task, suspension, queue, mailbox, message, valid}
-use Rattle.model.specs.Calls.{Call, View, calls, names, names-task, names-queue, names-mailbox, names-message, message-of}
+use Rattle.model.specs.Calls.{Call, View, names, names-task, names-queue, names-mailbox, names-message, message-of}
 use Rattle.model.specs.Waits.{able}
-use Rattle.model.specs.Errors.{unknown, caller-unable, called-while-locked, called-by-handler, called-while-disabled, number-outside, tmout-outside, attribute-outside, capacity-outside, task-priority-outside, message-outside, highest-outside, missing, message-priority-outside, wrong-state, suspended-already, nothing-to-drop, polls, would-wait, ErrorRow, error-table, some-applies, refused}
-use Rattle.model.proofs.Tests.{neither-left, neither-right, not-not, not-both, not-both-left, and-both, positive}
+use Rattle.model.specs.Errors.{unknown, caller-cannot-call, task-only, called-while-locked, called-by-handler, called-while-disabled, number-outside, tmout-outside, attribute-outside, capacity-outside, task-priority-outside, message-outside, highest-outside, missing, message-priority-outside, wrong-state, suspended-already, nothing-to-drop, polls, would-wait, ErrorRow, error-table, some-applies, refused}
+use Rattle.model.proofs.Tests.{neither-left, neither-right, not-both, not-both-left}
 
 -- No row applies.
 none-applies : (rows : List ErrorRow) → T (not (some-applies rows)) → Each (λ row. T (not (row .applies))) rows
@@ -19,7 +21,7 @@ none-applies (row ∷ rows) t = both (neither-left (row .applies) (some-applies 
 
 pub record Passes (v : View) (c : Call) : Type 0 where
   pub step-0 : T (not (unknown c))
-  pub step-1 : T (not (caller-unable v c))
+  pub step-1 : T (not (caller-cannot-call v c))
   pub step-2 : T (not (called-while-locked c || called-by-handler c || called-while-disabled c))
   pub step-3 : T (not (number-outside c))
   pub step-4 : T (not (tmout-outside c || attribute-outside c || capacity-outside c || task-priority-outside c || message-outside c || highest-outside c))
@@ -38,26 +40,22 @@ passes v c t = read (none-applies (error-table true v c) t)
     read (both s0 (both sound (both s1 (both s2 (both s3 (both s4 (both s5 (both s6a (both s6b (both s6c (both s6d (both s7 none)))))))))))) =
         record { step-0 = s0; step-1 = s1; step-2 = s2; step-3 = s3; step-4 = s4; step-5 = s5; step-6a = s6a; step-6b = s6b; step-6c = s6c; step-6d = s6d; step-7 = s7 }
 
--- A number that is named and passes step 3 is valid, so it lies in S where the valid names do. n is 0 where nothing is named.
+-- A number that is named and passes step 3 is valid, so it lies in S where the valid names do. The number named is n, or 0 where the call names none of that kind.
 named : (S : Key → Type 0) (key : ℕ → Key) (is-named : Bool) (n : ℕ) → (T (valid (key (cond is-named n 0))) → S (key (cond is-named n 0)))
     → T (not (is-named && not (valid (key n)))) → T is-named → S (key n)
-named S key true n own inside t = own (not-not (valid (key n)) inside)
+named S key true n own inside t = own (T-not-not (valid (key n)) inside)
 named S key false n own inside t = absurd t
 
 valid-caller : (n : ℕ) → T (not (eqb n 0)) → T (not (ltb task-limit n)) → T (valid (task n))
-valid-caller n some below = and-both (leb 1 n) (leb n task-limit) (le→leb 1 n (positive n some)) (le→leb n task-limit (nltb→le task-limit n below))
+valid-caller n some below = yes-and (leb 1 n) (leb n task-limit) (le→leb 1 n (pos-of-ne-zero (eqb-no {a = n} some))) (le→leb n task-limit (nltb→le task-limit n below))
 
-caller-below : (v : View) (c : Call) → T (not (caller-unable v c)) → T (not (eqb (c .caller) 0)) → T (not (ltb task-limit (c .caller)))
-unfolding caller-unable
+caller-below : (v : View) (c : Call) → T (not (caller-cannot-call v c)) → T (not (eqb (c .caller) 0)) → T (not (ltb task-limit (c .caller)))
+unfolding caller-cannot-call
 caller-below v c able-to task-calls =
     let fit = not-both (not (eqb (c .caller) 0)) (ltb task-limit (c .caller) || not (v .caller .defined) || not (able (v .caller .wait)) || v .caller-suspended) able-to task-calls in
     search (fit, neither-left)
 
--- The calls that a handler can't make: their caller is a task.
-abbrev pub task-only : Call → Bool
-task-only c = calls c (3 ∷ 4 ∷ 6 ∷ 8 ∷ 10 ∷ 13 ∷ 15 ∷ 17 ∷ [])
-
--- What an accepted call goes by lies in S.
+-- What an accepted call uses lies in S.
 pub record Accepted (S : Key → Type 0) (c : Call) : Type 0 where
   pub task-in : T (names-task c) → S (task (c .object))
   pub suspension-in : T (names-task c) → S (suspension (c .object))
@@ -67,7 +65,7 @@ pub record Accepted (S : Key → Type 0) (c : Call) : Type 0 where
   pub caller-in : T (task-only c) → S (task (c .caller))
 
 pub accepted : (S : Key → Type 0) (v : View) (c : Call) → Each (λ k. T (valid k) → S k) (names c) → T (not (refused true v c)) → Accepted S c
-unfolding number-outside message-outside called-by-handler caller-unable
+unfolding number-outside message-outside called-by-handler
 accepted S v c (both me (both held (both t (both u (both q (both b (both g none))))))) ok =
     let p = passes v c ok in
     record {

@@ -11,14 +11,14 @@ use Rattle.rows.specs.Program as Program
 use Rattle.rows.proofs.Footprint.{Closed}
 use Rattle.rows.proofs.Owned.{separate-programs}
 use Rattle.rows.proofs.Two.{two-lists, each-list, each-caller, two-of}
-use Rattle.model.specs.Rows.{Key, task, suspension, queue, mailbox, message, tell, Row, nothing, empty-state}
+use Rattle.model.specs.Rows.{Key, task, suspension, queue, mailbox, message, same-key, Row, nothing, empty-state}
 use Rattle.model.specs.Calls.{Call}
 use Rattle.model.specs.Waits.{Wait, NoWait, Sending, Receiving, AtMailbox}
 use Rattle.model.specs.Step.{program, step}
 use Rattle.model.specs.Isolation.{WaitsAt, Linked, WaitsIn, QueuedIn, Placed, CallOf, Carrier, owns, Own, Isolation, IsolationFromEmpty, Owners, owner, OwnedBy, IsolationOfMany}
 use Rattle.model.proofs.Tests.{cond-no, cond-both}
 use Rattle.model.proofs.Step.{step-call}
-use Rattle.model.proofs.Footprints.{Refs, in-program}
+use Rattle.model.proofs.Footprints.{NamedIn, in-program}
 
 module _ {I : Type 0} (o : Owners I) where
   -- Whose part a task and a message are: a waiting task is its object's owner's, a queued message its mailbox's owner's, whosever they are.
@@ -53,7 +53,7 @@ module _ {I : Type 0} (o : Owners I) where
   waiter-in m i j (Receiving q end) e = e
   waiter-in m i j (AtMailbox b end) e = e
 
-  part-closed : (m : Program.Rows Row) → Linked m → (i : I) → Closed Refs (λ k. part m k ≡ i) m
+  part-closed : (m : Program.Rows Row) → Linked m → (i : I) → Closed NamedIn (λ k. part m k ≡ i) m
   unfolding part QueuedIn
   part-closed m l i (task n) r = waiter-in m (o .tasks n) i (m (task n) .wait) r
   part-closed m l i (suspension n) r = tt
@@ -91,8 +91,8 @@ beside-each l h none = none
 beside-each {X = X} {P = P} {Q = Q} l h (both q e) = let p : P = h cons≢nil in both (p, q) (each-map (λ x r. (p, r)) e)
 
 pub isolation-of-many : IsolationOfMany
-isolation-of-many I tell-owner m linked o lists placed own =
-    separate-programs tell tell-owner Refs program step (part o (m .rows)) Of (λ a. Unit)
+isolation-of-many I same-owner m linked o lists placed own =
+    separate-programs same-key same-owner NamedIn program step (part o (m .rows)) Of (λ a. Unit)
     (λ i e c h. in-program (λ k. part o (m .rows) k ≡ i) e c (each-map (λ k g t. part-own o (m .rows) i (h .0) k (g t)) (h .1 .own-names)))
     (λ i s c h. step-call s c (h .1 .no-tick))
     m lists (part-closed o (m .rows) linked) (λ i. beside-each (lists i) (placed i) (own i))
@@ -104,7 +104,7 @@ isolation-of-many I tell-owner m linked o lists placed own =
 
 data Who : Type 0 where
   first second nobody : Who
-  deriving Discrete as tell-who
+  deriving Discrete as same-who
 
 -- Whose a number is, where the two carriers have none in common.
 abbrev whose : Bool → Bool → Who
@@ -168,10 +168,10 @@ owner-is a b (message n) = refl
 
 pub isolation : Isolation
 isolation m linked a b apart placed-a placed-b xs ys own-a own-b =
-    two-of tell-who first second differ step m xs ys
-    (isolation-of-many Who tell-who m linked (owners a b) (two-lists tell-who first second xs ys)
-    (each-caller tell-who first second differ (λ i. Placed (OwnedBy (owners a b) i) (m .rows)) xs ys (placed-into in-a of-a (m .rows) placed-a) (placed-into in-b of-b (m .rows) placed-b))
-    (each-list tell-who first second differ (λ i. CallOf (OwnedBy (owners a b) i)) (each-map (call-into in-a) own-a) (each-map (call-into in-b) own-b)))
+    two-of same-who first second differ step m xs ys
+    (isolation-of-many Who same-who m linked (owners a b) (two-lists same-who first second xs ys)
+    (each-caller same-who first second differ (λ i. Placed (OwnedBy (owners a b) i) (m .rows)) xs ys (placed-into in-a of-a (m .rows) placed-a) (placed-into in-b of-b (m .rows) placed-b))
+    (each-list same-who first second differ (λ i. CallOf (OwnedBy (owners a b) i)) (each-map (call-into in-a) own-a) (each-map (call-into in-b) own-b)))
   where
     differ : first ≡ second → ⊥
     differ e = let z : _≡_ {A = ℕ} 0 1 = cc in omega arith

@@ -1,3 +1,4 @@
+pub mod Open
 pub mod Tests
 pub mod Step
 pub mod SixteenRuns

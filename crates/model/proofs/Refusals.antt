@@ -5,7 +5,7 @@ use Rattle.lists.specs.Lists.{Each, none, both}
 use Rattle.rows.specs.Program as Program
 use Rattle.rows.specs.Program.{step-of}
 use Rattle.rows.proofs.Footprint.{Closed, answer-is}
-use Rattle.model.specs.Rows.{Key, task, suspension, queue, mailbox, message, tell, Row}
+use Rattle.model.specs.Rows.{Key, task, suspension, queue, mailbox, message, same-key, Row}
 use Rattle.model.specs.Calls.{view-of}
 use Rattle.model.specs.Waits.{Wait, NoWait, Sending, Receiving, AtMailbox}
 use Rattle.model.specs.Step.{effect}
@@ -13,7 +13,7 @@ use Rattle.model.specs.Isolation.{WaitsIn, QueuedIn}
 use Rattle.model.specs.Refusals.{Refusals}
 use Rattle.model.proofs.Accepted.{passes, accepted}
 use Rattle.model.proofs.Step.{step-call, run-refused, run-accepted}
-use Rattle.model.proofs.Footprints.{Refs, Fine, Shown, in-effect}
+use Rattle.model.proofs.Footprints.{NamedIn, AnswersNoError, ViewWithin, in-effect}
 
 -- Every row is within the set of all rows, and names nothing outside it.
 abbrev Everything : Key → Type 0
@@ -29,7 +29,7 @@ waits-in (Sending q end word) = tt
 waits-in (Receiving q end) = tt
 waits-in (AtMailbox b end) = tt
 
-closed : (m : Program.Rows Row) → Closed Refs Everything m
+closed : (m : Program.Rows Row) → Closed NamedIn Everything m
 unfolding QueuedIn
 closed m (task n) s = waits-in (m (task n) .wait)
 closed m (suspension n) s = tt
@@ -43,9 +43,9 @@ refusals m c t = record {
   by-row = λ r. step-call m c t ∙ ap (λ o. record { state = record { environment = m .environment; rows = o .state }; answer = o .answer }) (run-refused (m .environment) c (m .rows) r);
   else-no-error = λ r n.
       let v = view-of (m .rows) c in
-      let shown : Shown Everything v = record { senders = each-thing (λ t. tt) _; receivers = each-thing (λ t. tt) _; waiters = each-thing (λ t. tt) _; messages = each-thing (λ g. tt) _ } in
+      let row-if-valid : ViewWithin Everything v = record { senders = each-thing (λ t. tt) _; receivers = each-thing (λ t. tt) _; waiters = each-thing (λ t. tt) _; messages = each-thing (λ g. tt) _ } in
       rw (step-call m c t, run-accepted (m .environment) c (m .rows) r)
-      (answer-is tell Refs Everything (Fine (c .number)) (effect (m .environment) v c) (m .rows)
-      (in-effect Everything (m .environment) v c shown (accepted Everything v c (each-thing (λ k t. tt) _) r) (passes v c r))
+      (answer-is same-key NamedIn Everything (AnswersNoError (c .number)) (effect (m .environment) v c) (m .rows)
+      (in-effect Everything (m .environment) v c row-if-valid (accepted Everything v c (each-thing (λ k t. tt) _) r) (passes v c r))
       (closed (m .rows)) n);
 }

@@ -1,9 +1,9 @@
--- What a passed or failed test says of its parts: by cases on the first part.
+-- What a passed or failed test says of its parts, where the library has no such law: by cases on the first part.
 use mathlib.Core.Path.{_≡_, refl}
 use mathlib.Core.Bool.{Bool, true, false, not, cond, _&&_, _||_}
-use Prim.Native.Nat.{ℕ, zero, suc, _≤_, zero-le, suc-le-suc}
-use lib.Dec.{T, eqb, eqb-refl, T-not}
+use lib.Dec.{T}
 
+-- The two halves of the library's `or-no`, which `search` can't take apart.
 pub neither-left : (a b : Bool) → T (not (a || b)) → T (not a)
 neither-left true b t = t
 neither-left false b t = tt
@@ -11,10 +11,6 @@ neither-left false b t = tt
 pub neither-right : (a b : Bool) → T (not (a || b)) → T (not b)
 neither-right true b t = absurd t
 neither-right false b t = t
-
-pub not-not : (b : Bool) → T (not (not b)) → T b
-not-not true t = t
-not-not false t = t
 
 -- Two tests that don't pass together: where the one passes, the other doesn't.
 pub not-both : (a b : Bool) → T (not (a && b)) → T a → T (not b)
@@ -26,13 +22,9 @@ not-both-left true true t u = t
 not-both-left true false t u = absurd u
 not-both-left false b t u = tt
 
-pub and-both : (a b : Bool) → T a → T b → T (a && b)
-and-both true b t u = u
-and-both false b t u = t
-
-pub positive : (n : ℕ) → T (not (eqb n 0)) → 1 ≤ n
-positive zero t = absurd (T-not (eqb 0 0) t (eqb-refl 0))
-positive (suc n) t = suc-le-suc zero-le
+pub or-left : (a b : Bool) → T a → T (a || b)
+or-left true b t = tt
+or-left false b t = absurd t
 
 pub cond-no : {X : Type 0} (b : Bool) (x y : X) → T (not b) → cond b x y ≡ y
 cond-no true x y t = absurd t
@@ -41,11 +33,3 @@ cond-no false x y t = refl
 pub cond-both : {X : Type 0} {z : X} (b : Bool) (x y : X) → x ≡ z → (T (not b) → y ≡ z) → cond b x y ≡ z
 cond-both true x y e h = e
 cond-both false x y e h = h tt
-
-pub or-left : (a b : Bool) → T a → T (a || b)
-or-left true b t = tt
-or-left false b t = absurd t
-
-pub and-right : (a b : Bool) → T (a && b) → T b
-and-right true b t = t
-and-right false b t = absurd t

@@ -27,6 +27,13 @@ names-mailbox c = within 12 18 (c .number)
 abbrev pub names-message : Call → Bool
 names-message c = eqb (c .number) 14
 
+-- The calls that make a task or an object, and the calls with a tmout.
+abbrev pub creates : Call → Bool
+creates c = calls c (1 ∷ 2 ∷ 12 ∷ [])
+
+abbrev pub has-tmout : Call → Bool
+has-tmout c = calls c (6 ∷ 10 ∷ 17 ∷ [])
+
 -- The same column: what else the fields `value` and `attribute` hold.
 abbrev pub word-of : Call → ℕ
 word-of c = c .value
@@ -75,31 +82,31 @@ pub record View : Type 0 where
   pub the-mailbox : MailboxRow
   pub the-message : MessageRow
 
-abbrev pub shown : Program.Rows Row → (k : Key) → Row k
-shown m k = cond (valid k) (m k) (nothing k)
+abbrev pub row-if-valid : Program.Rows Row → (k : Key) → Row k
+row-if-valid m k = cond (valid k) (m k) (nothing k)
 
 unfoldable pub view-of : Program.Rows Row → Call → View
 view-of m c = record {
-  caller = shown m (task (c .caller));
-  caller-suspended = shown m (suspension (c .caller));
-  the-task = shown m (task (task-named c));
-  suspended = shown m (suspension (task-named c));
-  the-queue = shown m (queue (queue-named c));
-  the-mailbox = shown m (mailbox (mailbox-named c));
-  the-message = shown m (message (message-named c));
+  caller = row-if-valid m (task (c .caller));
+  caller-suspended = row-if-valid m (suspension (c .caller));
+  the-task = row-if-valid m (task (task-named c));
+  suspended = row-if-valid m (suspension (task-named c));
+  the-queue = row-if-valid m (queue (queue-named c));
+  the-mailbox = row-if-valid m (mailbox (mailbox-named c));
+  the-message = row-if-valid m (message (message-named c));
 }
 
 -- The same as a program, so that what a call reads is part of what it does.
-unfoldable pub seen : (k : Key) → (Row k → Effect) → Effect
-seen k rest = if valid k then get k rest else rest (nothing k)
+unfoldable pub read-if-valid : (k : Key) → (Row k → Effect) → Effect
+read-if-valid k rest = if valid k then get k rest else rest (nothing k)
 
-unfoldable pub look-at : Call → (View → Effect) → Effect
-look-at c rest = do
-  caller ← seen (task (c .caller))
-  caller-suspended ← seen (suspension (c .caller))
-  the-task ← seen (task (task-named c))
-  suspended ← seen (suspension (task-named c))
-  the-queue ← seen (queue (queue-named c))
-  the-mailbox ← seen (mailbox (mailbox-named c))
-  the-message ← seen (message (message-named c))
+unfoldable pub read-view : Call → (View → Effect) → Effect
+read-view c rest = do
+  caller ← read-if-valid (task (c .caller))
+  caller-suspended ← read-if-valid (suspension (c .caller))
+  the-task ← read-if-valid (task (task-named c))
+  suspended ← read-if-valid (suspension (task-named c))
+  the-queue ← read-if-valid (queue (queue-named c))
+  the-mailbox ← read-if-valid (mailbox (mailbox-named c))
+  the-message ← read-if-valid (message (message-named c))
   rest (record { caller = caller; caller-suspended = caller-suspended; the-task = the-task; suspended = suspended; the-queue = the-queue; the-mailbox = the-mailbox; the-message = the-message })

@@ -137,8 +137,3 @@ module _ (e : Environment) (v : View) (c : Call) where
   -- 11: a the head sender, b the head receiver, 0 for none, c the stored count.
   abbrev pub ref-dtq : Effect
   ref-dtq = return (finished E-OK (headD (v .the-queue .senders) 0) (headD (v .the-queue .receivers) 0) (length (v .the-queue .words)))
-
--- Opens every definition of this file.
-unfoldable pub open-data-queues : Unit {0}
-unfolding deliver store replace-oldest wait-to-send send take-oldest take-oldest-and-refill take-from-sender wait-to-receive receive
-open-data-queues = tt

@@ -9,7 +9,7 @@ use Rattle.model.specs.Sizes.{call-limit, task-limit, capacity-limit, pr
 use Rattle.model.specs.Rows.{task, queue, mailbox, message, valid, has-room, messages-by-priority}
 use Rattle.model.specs.Waits.{able}
 use Rattle.model.specs.Codes.{Code, E-OK, E-SYS, E-PAR, E-ID, E-CTX, E-ILUSE, E-OBJ, E-NOEXS, E-QOVR, E-TMOUT}
-use Rattle.model.specs.Calls.{Call, calls, names-task, names-queue, names-mailbox, names-message, message-of, capacity-of, task-priority-of, highest-of, message-priority-of, View}
+use Rattle.model.specs.Calls.{Call, calls, creates, has-tmout, names-task, names-queue, names-mailbox, names-message, message-of, capacity-of, task-priority-of, highest-of, message-priority-of, View}
 
 -- ── Step 0 ──
 
@@ -19,8 +19,8 @@ unknown c = not (within 1 call-limit (c .number))
 
 -- ── Step 1 ──
 
-unfoldable pub caller-unable : View → Call → Bool
-caller-unable v c =
+unfoldable pub caller-cannot-call : View → Call → Bool
+caller-cannot-call v c =
     not (eqb (c .caller) 0)
     && (ltb task-limit (c .caller)
     || not (v .caller .defined)
@@ -32,8 +32,12 @@ caller-unable v c =
 unfoldable pub called-while-locked : Call → Bool
 called-while-locked c = c .locked && within 1 call-limit (c .number)
 
+-- The calls that only a task can make.
+abbrev pub task-only : Call → Bool
+task-only c = calls c (3 ∷ 4 ∷ 6 ∷ 8 ∷ 10 ∷ 13 ∷ 15 ∷ 17 ∷ [])
+
 unfoldable pub called-by-handler : Call → Bool
-called-by-handler c = eqb (c .caller) 0 && calls c (3 ∷ 4 ∷ 6 ∷ 8 ∷ 10 ∷ 13 ∷ 15 ∷ 17 ∷ [])
+called-by-handler c = eqb (c .caller) 0 && task-only c
 
 -- sus_tsk naming the task that calls: never for caller 0.
 unfoldable pub suspends-itself : Call → Bool
@@ -54,7 +58,7 @@ number-outside c =
 -- ── Step 4 ──
 
 unfoldable pub tmout-outside : Call → Bool
-tmout-outside c = calls c (6 ∷ 10 ∷ 17 ∷ []) && (ltZ (c .tmout) (negsuc 0) || ltZ (pos tmout-limit) (c .tmout))
+tmout-outside c = has-tmout c && (ltZ (c .tmout) (negsuc 0) || ltZ (pos tmout-limit) (c .tmout))
 
 unfoldable pub attribute-outside : Call → Bool
 attribute-outside c = eqb (c .number) 2 && not (within 0 1 (c .attribute)) || eqb (c .number) 12 && not (within 0 3 (c .attribute))
@@ -80,7 +84,7 @@ exists v c =
     || names-mailbox c && v .the-mailbox .defined
 
 unfoldable pub missing : View → Call → Bool
-missing v c = not (calls c (1 ∷ 2 ∷ 12 ∷ [])) && not (exists v c)
+missing v c = not (creates c) && not (exists v c)
 
 -- ── Steps 6a to 6d ──
 
@@ -92,7 +96,7 @@ message-priority-outside v c =
 
 unfoldable pub wrong-state : View → Call → Bool
 wrong-state v c =
-    calls c (1 ∷ 2 ∷ 12 ∷ []) && exists v c  -- already exists
+    creates c && exists v c  -- already exists
     || names-message c && not (eqb (v .the-message .queued-in) 0)  -- already queued in some mailbox
     || eqb (c .number) 19 && able (v .the-task .wait)  -- not waiting
     || eqb (c .number) 21 && not (v .suspended)  -- not suspended
@@ -112,7 +116,7 @@ is-zero (pos n) = eqb n 0
 is-zero (negsuc n) = false
 
 unfoldable pub polls : Call → Bool
-polls c = calls c (5 ∷ 9 ∷ 16 ∷ []) || calls c (6 ∷ 10 ∷ 17 ∷ []) && is-zero (c .tmout)
+polls c = calls c (5 ∷ 9 ∷ 16 ∷ []) || has-tmout c && is-zero (c .tmout)
 
 unfoldable pub would-wait : View → Call → Bool
 would-wait v c =
@@ -135,7 +139,7 @@ unfoldable pub error-table : Bool → View → Call → List ErrorRow
 error-table sound v c =
     (E-PAR when unknown c)  -- 0
     ∷ (E-SYS when not sound)  -- 1
-    ∷ (E-SYS when caller-unable v c)
+    ∷ (E-SYS when caller-cannot-call v c)
     ∷ (E-CTX when (called-while-locked c || called-by-handler c || called-while-disabled c))  -- 2
     ∷ (E-ID when number-outside c)  -- 3
     ∷ (E-PAR when (tmout-outside c || attribute-outside c || capacity-outside c || task-priority-outside c || message-outside c || highest-outside c))  -- 4
@@ -162,8 +166,3 @@ refused sound v c = some-applies (error-table sound v c)
 
 unfoldable pub refusal : Bool → View → Call → Code
 refusal sound v c = first-that-applies (error-table sound v c)
-
--- Opens every definition of this file.
-unfoldable pub open-errors : Unit {0}
-unfolding unknown caller-unable called-while-locked called-by-handler suspends-itself called-while-disabled number-outside tmout-outside attribute-outside capacity-outside task-priority-outside message-outside highest-outside exists missing message-priority-outside wrong-state suspended-already nothing-to-drop polls would-wait error-table some-applies first-that-applies refused refusal
-open-errors = tt

@@ -113,8 +113,8 @@ OwnedBy o i k = owner o k ≡ i
 -- The same for any number of carriers, each with a list of calls; who has no calls need not be placed.
 abbrev pub IsolationOfMany : Type 1
 IsolationOfMany =
-    (I : Type 0) (tell-owner : Discrete I) (m : Model) → Linked (m .rows)
+    (I : Type 0) (same-owner : Discrete I) (m : Model) → Linked (m .rows)
     → (o : Owners I) (lists : I → List Call)
     → ((i : I) → (lists i ≡ [] → ⊥) → Placed (OwnedBy o i) (m .rows))
     → ((i : I) → Each (CallOf (OwnedBy o i)) (lists i))
-    → SeparateAll tell-owner step m lists
+    → SeparateAll same-owner step m lists

@@ -1,4 +1,4 @@
--- The definition in document 01's order, and the statements about it. `Open` only opens definitions for proofs that compute.
+-- First what all the rest uses (Sizes to Waits), then document 01's order, then the statements.
 pub mod Sizes
 pub mod Rows
 pub mod Codes
@@ -13,4 +13,3 @@ pub mod Step
 pub mod Refusals
 pub mod Isolation
 pub mod SixteenRuns
-pub mod Open

@@ -98,8 +98,3 @@ module _ (e : Environment) (v : View) (c : Call) where
   -- 18: a the head waiter, b the head message.
   abbrev pub ref-mbx : Effect
   ref-mbx = return (finished E-OK (headD (v .the-mailbox .waiters) 0) (headD (v .the-mailbox .messages) 0) 0)
-
--- Opens every definition of this file.
-unfoldable pub open-mailboxes : Unit {0}
-unfolding free-messages deliver-message queue-message take-message wait-for-message send-message receive-message
-open-mailboxes = tt

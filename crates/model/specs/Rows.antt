@@ -20,8 +20,8 @@ pub data Key : Type 0 where
   task suspension queue mailbox message : ℕ → Key
   deriving Discrete as Key-discrete
 
-unfoldable pub tell : Discrete Key
-tell = Key-discrete ℕ-discrete
+unfoldable pub same-key : Discrete Key
+same-key = Key-discrete ℕ-discrete
 
 -- A number is valid from 1 to the limit of its kind.
 abbrev pub valid : Key → Bool

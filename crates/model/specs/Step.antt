@@ -4,9 +4,9 @@ use mathlib.Core.List.{List, [], _∷_}
 use lib.Dec.{eqb}
 use lib.ListN.{getD}
 use Rattle.rows.specs.Program.{Result, if_then_else_, step-of}
-use Rattle.model.specs.Rows.{tell, Environment, Model, Effect}
+use Rattle.model.specs.Rows.{same-key, Environment, Model, Effect}
 use Rattle.model.specs.Codes.{E-PAR, refuse}
-use Rattle.model.specs.Calls.{Call, View, look-at}
+use Rattle.model.specs.Calls.{Call, View, read-view}
 use Rattle.model.specs.Errors.{refused, refusal}
 use Rattle.model.specs.DataQueues.{cre-dtq, del-dtq, snd-dtq, psnd-dtq, tsnd-dtq, fsnd-dtq, rcv-dtq, prcv-dtq, trcv-dtq, ref-dtq}
 use Rattle.model.specs.Mailboxes.{cre-mbx, del-mbx, snd-mbx, rcv-mbx, prcv-mbx, trcv-mbx, ref-mbx}
@@ -37,16 +37,11 @@ effect e v c = getD effects (c .number) no-call e v c
 
 -- A call looks at what it names, is refused where the error table says so, and else has its effect.
 unfoldable pub program : Environment → Call → Effect
-program e c = look-at c λ v. if refused true v c then refuse (refusal true v c) else effect e v c
+program e c = read-view c λ v. if refused true v c then refuse (refusal true v c) else effect e v c
 
 unfoldable pub call : Model → Call → Result Model Answer
-call m c = step-of tell program m c
+call m c = step-of same-key program m c
 
 -- One call, or the tick.
 unfoldable pub step : Model → Call → Result Model Answer
 step m c = cond (eqb (c .number) 0) (tick m) (call m c)
-
--- Opens every definition of this file.
-unfoldable pub open-step : Unit {0}
-unfolding effects effect program call step
-open-step = tt

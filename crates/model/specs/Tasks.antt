@@ -5,7 +5,7 @@ use Prim.Native.Nat.{ℕ, suc, _+_, _%_}
 use Rattle.lists.specs.Lists.{ascending}
 use Rattle.rows.specs.Program.{Result, return, get, put, if_then_else_, run, _>>=_, _>>_}
 use Rattle.model.specs.Sizes.{task-limit, counter-span}
-use Rattle.model.specs.Rows.{task, suspension, tell, Environment, Model, Effect}
+use Rattle.model.specs.Rows.{task, suspension, same-key, Environment, Model, Effect}
 use Rattle.model.specs.Codes.{E-OK, E-RLWAI, E-TMOUT, finished, done, gives}
 use Rattle.model.specs.Calls.{Call, View, task-priority-of}
 use Rattle.model.specs.Waits.{NoWait, wait-number, wait-object, wait-end, due}
@@ -56,10 +56,5 @@ expire counter (t ∷ ts) n = do
 unfoldable pub tick : Model → Result Model Answer
 tick m =
     let counter = (m .environment .counter + 1) % counter-span in
-    let o = run tell (expire counter (ascending 1 task-limit) 0) (m .rows) in
+    let o = run same-key (expire counter (ascending 1 task-limit) 0) (m .rows) in
     record { state = record { environment = record { counter = counter }; rows = o .state }; answer = o .answer }
-
--- Opens every definition of this file.
-unfoldable pub open-tasks : Unit {0}
-unfolding expire tick
-open-tasks = tt

@@ -54,8 +54,3 @@ end-waits (t ∷ ts) code rest = do
   end-wait t code
   end-waits ts code
   rest
-
--- Opens every definition of this file.
-unfoldable pub open-wait-queues : Unit {0}
-unfolding place release take-out end-wait end-waits
-open-wait-queues = tt

@@ -7,25 +7,25 @@ use Rattle.lists.specs.Lists.{Each, none, both}
 use Rattle.rows.specs.Program.{Program, return, get, put, if_then_else_, get-each, Rows, update, run}
 use Rattle.rows.proofs.Update.{update-cases, update-other, update-agree}
 
--- `Refs S k v`: whatever the row v at key k names lies in S.
+-- `NamedIn S k v`: whatever the row v at key k names lies in S.
 -- A program is within S and answers P where it touches rows of S alone, writes no row that names one outside, and returns only what P holds of.
 -- Of a row that it reads it knows that it names none outside.
-module _ {Key : Type 0} {Row : Key → Type 0} {A : Type 0} (Refs : (Key → Type 0) → (k : Key) → Row k → Type 0) (S : Key → Type 0) (P : A → Type 0) where
+module _ {Key : Type 0} {Row : Key → Type 0} {A : Type 0} (NamedIn : (Key → Type 0) → (k : Key) → Row k → Type 0) (S : Key → Type 0) (P : A → Type 0) where
   unfoldable pub Within : Program Key Row A → Type 0
   Within (return a) = P a
-  Within (get k f) = S k × ((v : Row k) → Refs S k v → Within (f v))
-  Within (put k v p) = S k × Refs S k v × Within p
+  Within (get k f) = S k × ((v : Row k) → NamedIn S k v → Within (f v))
+  Within (put k v p) = S k × NamedIn S k v × Within p
   Within (if b then p else q) = (T b → Within p) × (T (not b) → Within q)
 
   pub in-return : (a : A) → P a → Within (return a)
   unfolding Within
   in-return a h = h
 
-  pub in-get : (k : Key) (f : Row k → Program Key Row A) → S k → ((v : Row k) → Refs S k v → Within (f v)) → Within (get k f)
+  pub in-get : (k : Key) (f : Row k → Program Key Row A) → S k → ((v : Row k) → NamedIn S k v → Within (f v)) → Within (get k f)
   unfolding Within
   in-get k f s h = (s, h)
 
-  pub in-put : (k : Key) (v : Row k) (p : Program Key Row A) → S k → Refs S k v → Within p → Within (put k v p)
+  pub in-put : (k : Key) (v : Row k) (p : Program Key Row A) → S k → NamedIn S k v → Within p → Within (put k v p)
   unfolding Within
   in-put k v p s r h = (s, r, h)
 
@@ -40,60 +40,60 @@ module _ {Key : Type 0} {Row : Key → Type 0} {A : Type 0} (Refs : (Key → Typ
   in-get-each key read (n ∷ ns) f (both s e) h = (s, λ row r. in-get-each key read ns (λ others. f (read n row ∷ others)) e (λ others. h (read n row ∷ others)))
 
 -- The rows of S name nothing outside S.
-abbrev pub Closed : {Key : Type 0} {Row : Key → Type 0} (Refs : (Key → Type 0) → (k : Key) → Row k → Type 0) (S : Key → Type 0) → Rows Row → Type 0
-Closed {Key = Key} Refs S m = (k : Key) → S k → Refs S k (m k)
+abbrev pub Closed : {Key : Type 0} {Row : Key → Type 0} (NamedIn : (Key → Type 0) → (k : Key) → Row k → Type 0) (S : Key → Type 0) → Rows Row → Type 0
+Closed {Key = Key} NamedIn S m = (k : Key) → S k → NamedIn S k (m k)
 
-module _ {Key : Type 0} {Row : Key → Type 0} {A : Type 0} (Refs : (Key → Type 0) → (k : Key) → Row k → Type 0) (S : Key → Type 0) (P Q : A → Type 0) where
-  pub within-map : ((a : A) → P a → Q a) → (p : Program Key Row A) → Within Refs S P p → Within Refs S Q p
+module _ {Key : Type 0} {Row : Key → Type 0} {A : Type 0} (NamedIn : (Key → Type 0) → (k : Key) → Row k → Type 0) (S : Key → Type 0) (P Q : A → Type 0) where
+  pub within-map : ((a : A) → P a → Q a) → (p : Program Key Row A) → Within NamedIn S P p → Within NamedIn S Q p
   unfolding Within
   within-map g (return a) w = g a w
   within-map g (get k f) w = (w .0, λ v r. within-map g (f v) (w .1 v r))
   within-map g (put k v p) w = (w .0, w .1, within-map g p (w .2))
   within-map g (if b then p else q) w = (λ t. within-map g p (w .0 t), λ t. within-map g q (w .1 t))
 
-module _ {Key : Type 0} {Row : Key → Type 0} (tell : Discrete Key) (Refs : (Key → Type 0) → (k : Key) → Row k → Type 0) (S : Key → Type 0) where
-  update-closed : (k : Key) (v : Row k) (m : Rows Row) → Refs S k v → Closed Refs S m → Closed Refs S (update tell k v m)
-  update-closed k v m r c j = update-cases tell (λ i w. S i → Refs S i w) k v m (λ s. r) j (λ n. c j)
+module _ {Key : Type 0} {Row : Key → Type 0} (same-key : Discrete Key) (NamedIn : (Key → Type 0) → (k : Key) → Row k → Type 0) (S : Key → Type 0) where
+  update-closed : (k : Key) (v : Row k) (m : Rows Row) → NamedIn S k v → Closed NamedIn S m → Closed NamedIn S (update same-key k v m)
+  update-closed k v m r c j = update-cases same-key (λ i w. S i → NamedIn S i w) k v m (λ s. r) j (λ n. c j)
 
   module _ {A : Type 0} (P : A → Type 0) where
-    pub keeps-closed : (p : Program Key Row A) (m : Rows Row) → Within Refs S P p → Closed Refs S m → Closed Refs S (run tell p m .state)
+    pub keeps-closed : (p : Program Key Row A) (m : Rows Row) → Within NamedIn S P p → Closed NamedIn S m → Closed NamedIn S (run same-key p m .state)
     unfolding run Within
     keeps-closed (return a) m w c = c
     keeps-closed (get k f) m w c = keeps-closed (f (m k)) m (w .1 (m k) (c k (w .0))) c
-    keeps-closed (put k v p) m w c = keeps-closed p (update tell k v m) (w .2) (update-closed k v m (w .1) c)
+    keeps-closed (put k v p) m w c = keeps-closed p (update same-key k v m) (w .2) (update-closed k v m (w .1) c)
     keeps-closed (if true then p else q) m w c = keeps-closed p m (w .0 tt) c
     keeps-closed (if false then p else q) m w c = keeps-closed q m (w .1 tt) c
 
-    pub answer-is : (p : Program Key Row A) (m : Rows Row) → Within Refs S P p → Closed Refs S m → P (run tell p m .answer)
+    pub answer-is : (p : Program Key Row A) (m : Rows Row) → Within NamedIn S P p → Closed NamedIn S m → P (run same-key p m .answer)
     unfolding run Within
     answer-is (return a) m w c = w
     answer-is (get k f) m w c = answer-is (f (m k)) m (w .1 (m k) (c k (w .0))) c
-    answer-is (put k v p) m w c = answer-is p (update tell k v m) (w .2) (update-closed k v m (w .1) c)
+    answer-is (put k v p) m w c = answer-is p (update same-key k v m) (w .2) (update-closed k v m (w .1) c)
     answer-is (if true then p else q) m w c = answer-is p m (w .0 tt) c
     answer-is (if false then p else q) m w c = answer-is q m (w .1 tt) c
 
     -- A row outside S is left as it was.
-    pub outside : (p : Program Key Row A) (m : Rows Row) → Within Refs S P p → Closed Refs S m → (j : Key) → (S j → ⊥) → run tell p m .state j ≡ m j
+    pub outside : (p : Program Key Row A) (m : Rows Row) → Within NamedIn S P p → Closed NamedIn S m → (j : Key) → (S j → ⊥) → run same-key p m .state j ≡ m j
     unfolding run Within
     outside (return a) m w c j n = refl
     outside (get k f) m w c j n = outside (f (m k)) m (w .1 (m k) (c k (w .0))) c j n
     outside (put k v p) m w c j n =
-        outside p (update tell k v m) (w .2) (update-closed k v m (w .1) c) j n
-        ∙ update-other tell k v m j (λ e. n (subst S (sym e) (w .0)))
+        outside p (update same-key k v m) (w .2) (update-closed k v m (w .1) c) j n
+        ∙ update-other same-key k v m j (λ e. n (subst S (sym e) (w .0)))
     outside (if true then p else q) m w c j n = outside p m (w .0 tt) c j n
     outside (if false then p else q) m w c j n = outside q m (w .1 tt) c j n
 
     -- From tables that agree on S: the same answer, and tables that agree on S.
-    pub confined : (p : Program Key Row A) (m n : Rows Row) → Within Refs S P p → Closed Refs S m → ((k : Key) → S k → m k ≡ n k)
-        → (run tell p m .answer ≡ run tell p n .answer) × ((k : Key) → S k → run tell p m .state k ≡ run tell p n .state k)
+    pub confined : (p : Program Key Row A) (m n : Rows Row) → Within NamedIn S P p → Closed NamedIn S m → ((k : Key) → S k → m k ≡ n k)
+        → (run same-key p m .answer ≡ run same-key p n .answer) × ((k : Key) → S k → run same-key p m .state k ≡ run same-key p n .state k)
     unfolding run Within
     confined (return a) m n w c e = (refl, e)
     confined (get k f) m n w c e =
         subst
-        (λ (v : Row k). (run tell (f (m k)) m .answer ≡ run tell (f v) n .answer) × ((j : Key) → S j → run tell (f (m k)) m .state j ≡ run tell (f v) n .state j))
+        (λ (v : Row k). (run same-key (f (m k)) m .answer ≡ run same-key (f v) n .answer) × ((j : Key) → S j → run same-key (f (m k)) m .state j ≡ run same-key (f v) n .state j))
         (e k (w .0))
         (confined (f (m k)) m n (w .1 (m k) (c k (w .0))) c e)
     confined (put k v p) m n w c e =
-        confined p (update tell k v m) (update tell k v n) (w .2) (update-closed k v m (w .1) c) (λ j s. update-agree tell k v m n j (e j s))
+        confined p (update same-key k v m) (update same-key k v n) (w .2) (update-closed k v m (w .1) c) (λ j s. update-agree same-key k v m n j (e j s))
     confined (if true then p else q) m n w c e = confined p m n (w .0 tt) c e
     confined (if false then p else q) m n w c e = confined q m n (w .1 tt) c e

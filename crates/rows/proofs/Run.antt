@@ -5,31 +5,31 @@ use mathlib.Core.List.{List, [], _∷_, map}
 use lib.Dec.{T}
 use Rattle.rows.specs.Program.{Program, return, get, put, if_then_else_, get-each, Rows, update, run}
 
-module _ {Key : Type 0} {Row : Key → Type 0} {A : Type 0} (tell : Discrete Key) where
-  pub run-return : (a : A) (m : Rows Row) → run {Row = Row} tell (return a) m ≡ record { state = m; answer = a }
+module _ {Key : Type 0} {Row : Key → Type 0} {A : Type 0} (same-key : Discrete Key) where
+  pub run-return : (a : A) (m : Rows Row) → run {Row = Row} same-key (return a) m ≡ record { state = m; answer = a }
   unfolding run
   run-return a m = refl
 
-  pub run-get : (k : Key) (f : Row k → Program Key Row A) (m : Rows Row) → run tell (get k f) m ≡ run tell (f (m k)) m
+  pub run-get : (k : Key) (f : Row k → Program Key Row A) (m : Rows Row) → run same-key (get k f) m ≡ run same-key (f (m k)) m
   unfolding run
   run-get k f m = refl
 
-  pub run-put : (k : Key) (v : Row k) (p : Program Key Row A) (m : Rows Row) → run tell (put k v p) m ≡ run tell p (update tell k v m)
+  pub run-put : (k : Key) (v : Row k) (p : Program Key Row A) (m : Rows Row) → run same-key (put k v p) m ≡ run same-key p (update same-key k v m)
   unfolding run
   run-put k v p m = refl
 
-  pub run-yes : (b : Bool) (p q : Program Key Row A) (m : Rows Row) → T b → run tell (if b then p else q) m ≡ run tell p m
+  pub run-yes : (b : Bool) (p q : Program Key Row A) (m : Rows Row) → T b → run same-key (if b then p else q) m ≡ run same-key p m
   unfolding run
   run-yes true p q m t = refl
   run-yes false p q m t = absurd t
 
-  pub run-no : (b : Bool) (p q : Program Key Row A) (m : Rows Row) → T (not b) → run tell (if b then p else q) m ≡ run tell q m
+  pub run-no : (b : Bool) (p q : Program Key Row A) (m : Rows Row) → T (not b) → run same-key (if b then p else q) m ≡ run same-key q m
   unfolding run
   run-no true p q m t = absurd t
   run-no false p q m t = refl
 
   pub run-get-each : {N X : Type 0} (key : N → Key) (read : (n : N) → Row (key n) → X) (l : List N) (f : List X → Program Key Row A) (m : Rows Row)
-      → run tell (get-each key read l f) m ≡ run tell (f (map (λ n. read n (m (key n))) l)) m
+      → run same-key (get-each key read l f) m ≡ run same-key (f (map (λ n. read n (m (key n))) l)) m
   unfolding run get-each
   run-get-each key read [] f m = refl
   run-get-each key read (n ∷ ns) f m = run-get-each key read ns (λ others. f (read n (m (key n)) ∷ others)) m

@@ -56,10 +56,10 @@ module _ {P Q X : Type 0} where
   choose-right (no n) (no q) x l xs ys d e = e
 
 -- Among the owners, a has the list xs, b the list ys, every other none.
-unfoldable pub two-lists : {I X : Type 0} (tell : Discrete I) (a b : I) → List X → List X → I → List X
-two-lists tell a b xs ys i = choose (tell a i) (tell b i) xs ys
+unfoldable pub two-lists : {I X : Type 0} (same-owner : Discrete I) (a b : I) → List X → List X → I → List X
+two-lists same-owner a b xs ys i = choose (same-owner a i) (same-owner b i) xs ys
 
-module _ {I : Type 0} (tell : Discrete I) (a b : I) (differ : a ≡ b → ⊥) where
+module _ {I : Type 0} (same-owner : Discrete I) (a b : I) (differ : a ≡ b → ⊥) where
   abbrev side : Bool → I
   side true = a
   side false = b
@@ -70,16 +70,16 @@ module _ {I : Type 0} (tell : Discrete I) (a b : I) (differ : a ≡ b → ⊥) w
   sided (t ∷ turns) [] = []
   sided (t ∷ turns) (z ∷ zs) = (side t, z) ∷ sided turns zs
 
-  merge-of : {X : Type 0} {turns : List Bool} {xs ys zs : List X} → Merge turns xs ys zs → MergeOf tell (two-lists tell a b xs ys) (sided turns zs)
+  merge-of : {X : Type 0} {turns : List Bool} {xs ys zs : List X} → Merge turns xs ys zs → MergeOf same-owner (two-lists same-owner a b xs ys) (sided turns zs)
   unfolding sided share two-lists
-  merge-of done i = choose-none (tell a i) (tell b i)
-  merge-of (left {x = x} m) i = choose-left (tell a i) (tell b i) x _ _ _ (merge-of m i)
-  merge-of (right {y = y} m) i = choose-right (tell a i) (tell b i) y _ _ _ (λ p q. differ (p ∙ sym q)) (merge-of m i)
+  merge-of done i = choose-none (same-owner a i) (same-owner b i)
+  merge-of (left {x = x} m) i = choose-left (same-owner a i) (same-owner b i) x _ _ _ (merge-of m i)
+  merge-of (right {y = y} m) i = choose-right (same-owner a i) (same-owner b i) y _ _ _ (λ p q. differ (p ∙ sym q)) (merge-of m i)
 
   -- What holds of the two lists' elements holds of every owner's.
-  pub each-list : {X : Type 0} (Of : I → X → Type 0) {xs ys : List X} → Each (Of a) xs → Each (Of b) ys → (i : I) → Each (Of i) (two-lists tell a b xs ys i)
+  pub each-list : {X : Type 0} (Of : I → X → Type 0) {xs ys : List X} → Each (Of a) xs → Each (Of b) ys → (i : I) → Each (Of i) (two-lists same-owner a b xs ys i)
   unfolding two-lists choose
-  each-list Of {xs} {ys} p q i = go (tell a i) (tell b i)
+  each-list Of {xs} {ys} p q i = go (same-owner a i) (same-owner b i)
     where
       go : (d : Dec (a ≡ i)) (e : Dec (b ≡ i)) → Each (Of i) (choose d e xs ys)
       go (yes h) e = subst (λ j. Each (Of j) xs) h p
@@ -87,9 +87,9 @@ module _ {I : Type 0} (tell : Discrete I) (a b : I) (differ : a ≡ b → ⊥) w
       go (no n) (no h) = none
 
   -- What holds of a and of b holds of every owner that has calls.
-  pub each-caller : {X : Type 0} (P : I → Type 0) (xs ys : List X) → P a → P b → (i : I) → (two-lists tell a b xs ys i ≡ [] → ⊥) → P i
+  pub each-caller : {X : Type 0} (P : I → Type 0) (xs ys : List X) → P a → P b → (i : I) → (two-lists same-owner a b xs ys i ≡ [] → ⊥) → P i
   unfolding two-lists choose
-  each-caller P xs ys p q i = go (tell a i) (tell b i)
+  each-caller P xs ys p q i = go (same-owner a i) (same-owner b i)
     where
       go : (d : Dec (a ≡ i)) (e : Dec (b ≡ i)) → (choose d e xs ys ≡ [] → ⊥) → P i
       go (yes h) e f = subst P h p
@@ -104,20 +104,20 @@ module _ {I : Type 0} (tell : Discrete I) (a b : I) (differ : a ≡ b → ⊥) w
     same-end (right {y = y} m) s = same-end m (step s y .state)
 
     split : {turns : List Bool} {xs ys zs : List R} → Merge turns xs ys zs → (s : S)
-        → Merge turns (share tell a (answers-of-turns step s (sided turns zs))) (share tell b (answers-of-turns step s (sided turns zs))) (answers step s zs)
+        → Merge turns (share same-owner a (answers-of-turns step s (sided turns zs))) (share same-owner b (answers-of-turns step s (sided turns zs))) (answers step s zs)
     unfolding sided answers-of-turns answers share
     split done s = done
-    split (left {x = x} m) s = rw (keep-yes (tell a a) _ _ refl, keep-no (tell a b) _ _ differ) (left (split m (step s x .state)))
-    split (right {y = y} m) s = rw (keep-yes (tell b b) _ _ refl, keep-no (tell b a) _ _ (λ e. differ (sym e))) (right (split m (step s y .state)))
+    split (left {x = x} m) s = rw (keep-yes (same-owner a a) _ _ refl, keep-no (same-owner a b) _ _ differ) (left (split m (step s x .state)))
+    split (right {y = y} m) s = rw (keep-yes (same-owner b b) _ _ refl, keep-no (same-owner b a) _ _ (λ e. differ (sym e))) (right (split m (step s y .state)))
 
-    pub two-of : (s : S) (xs ys : List R) → SeparateAll tell step s (two-lists tell a b xs ys) → Separate step s xs ys
+    pub two-of : (s : S) (xs ys : List R) → SeparateAll same-owner step s (two-lists same-owner a b xs ys) → Separate step s xs ys
     unfolding two-lists
     two-of s xs ys h = record {
       answers-alone = λ turns zs m.
           let all = h .answers-alone _ (merge-of m) in
-          subst (λ l. Merge turns l (answers step s ys) (answers step s zs)) (all a ∙ ap (answers step s) (choose-first (tell a a) (tell b a) xs ys refl))
-          (subst (λ l. Merge turns (share tell a (answers-of-turns step s (sided turns zs))) l (answers step s zs))
-          (all b ∙ ap (answers step s) (choose-second (tell a b) (tell b b) xs ys differ refl))
+          subst (λ l. Merge turns l (answers step s ys) (answers step s zs)) (all a ∙ ap (answers step s) (choose-first (same-owner a a) (same-owner b a) xs ys refl))
+          (subst (λ l. Merge turns (share same-owner a (answers-of-turns step s (sided turns zs))) l (answers step s zs))
+          (all b ∙ ap (answers step s) (choose-second (same-owner a b) (same-owner b b) xs ys differ refl))
           (split m s));
       one-end = λ turns turns′ zs zs′ m n. sym (same-end m s) ∙ (h .one-end _ _ (merge-of m) (merge-of n) ∙ same-end n s);
     }

@@ -35,10 +35,10 @@ pub record Result (S A : Type 0) : Type 0 where
 abbrev pub Rows : {Key : Type 0} → (Key → Type 0) → Type 0
 Rows {Key} Row = (k : Key) → Row k
 
-module _ {Key : Type 0} {Row : Key → Type 0} (tell : Discrete Key) where
+module _ {Key : Type 0} {Row : Key → Type 0} (same-key : Discrete Key) where
   -- The table with row k changed to v.
   unfoldable pub update : (k : Key) → Row k → Rows Row → Rows Row
-  update k v m j = elim (tell j k) [ yes e ↦ subst⁻¹ Row e v | no n ↦ m j ]
+  update k v m j = elim (same-key j k) [ yes e ↦ subst⁻¹ Row e v | no n ↦ m j ]
 
   unfoldable pub run : {A : Type 0} → Program Key Row A → Rows Row → Result (Rows Row) A
   run (return a) m = record { state = m; answer = a }
@@ -53,8 +53,8 @@ pub record State (E : Type 0) {Key : Type 0} (Row : Key → Type 0) : Type 0 whe
   pub rows : Rows Row
 
 -- A call as a step: its program in that environment, run on the rows.
-module _ {Key E R A : Type 0} {Row : Key → Type 0} (tell : Discrete Key) (program : E → R → Program Key Row A) where
+module _ {Key E R A : Type 0} {Row : Key → Type 0} (same-key : Discrete Key) (program : E → R → Program Key Row A) where
   unfoldable pub step-of : State E Row → R → Result (State E Row) A
   step-of s r =
-      let o = run tell (program (s .environment) r) (s .rows) in
+      let o = run same-key (program (s .environment) r) (s .rows) in
       record { state = record { environment = s .environment; rows = o .state }; answer = o .answer }
