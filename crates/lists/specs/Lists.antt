@@ -1,11 +1,11 @@
--- Lists as queues: the head is served first. What the library has no name for.
+-- Lists as queues, whose head is served first: definitions that the library lacks.
 use mathlib.Core.Bool.{Bool, true, false, cond, _||_}
 use mathlib.Core.List.{List, [], _∷_, _++_}
 use Prim.Native.Nat.{ℕ, zero, suc}
 use lib.Dec.{leb, eqb}
 use lib.ListN.{take, drop}
 
--- Every element is so.
+-- P holds of every element.
 pub data Each {X : Type 0} (P : X → Type 0) : List X → Type 0 where
   none : Each P []
   both : {x : X} {xs : List X} → P x → Each P xs → Each P (x ∷ xs)

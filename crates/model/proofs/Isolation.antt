@@ -21,7 +21,8 @@ use Rattle.model.proofs.Step.{step-call}
 use Rattle.model.proofs.Footprints.{NamedIn, in-program}
 
 module _ {I : Type 0} (o : Owners I) where
-  -- Whose part a task and a message are: a waiting task is its object's owner's, a queued message its mailbox's owner's, whosever they are.
+  -- Whose part a row is in: a waiting task is in that of the owner of the object it waits at, a queued message in that of its mailbox's owner, whoever owns the
+  -- task or the message.
   abbrev waiter : I → Wait → I
   waiter i NoWait = i
   waiter i (Sending q end word) = o .queues q
@@ -63,7 +64,7 @@ module _ {I : Type 0} (o : Owners I) where
   )
   part-closed m l i (mailbox n) r = (
     each-map (λ t e. waiter-at _ (mailbox n) (m (task t) .wait) e ∙ r) (l .waiters n),
-    each-map (λ g e. subst (λ b. queued (o .messages g) b ≡ i) (sym (e .here)) (cond-no (eqb n 0) _ _ (e .some) ∙ r)) (l .messages n),
+    each-map (λ g e. subst (λ b. queued (o .messages g) b ≡ i) (sym (e .queued-here)) (cond-no (eqb n 0) _ _ (e .a-mailbox) ∙ r)) (l .messages n),
   )
   part-closed m l i (message n) r = λ t. sym (cond-no (eqb (m (message n) .queued-in) 0) _ _ t) ∙ r
 

@@ -28,7 +28,6 @@ number E-TMOUT = minus 50
 number E-DLT = minus 51
 
 -- An answer is finished, kind 0, with a code, or waits, kind 1, with a place (document 02, item 3 has the kinds' numbers).
--- "Place" is document 01's word: the number of waiters that stay ahead.
 abbrev pub kind : Outcome → ℕ
 kind (Finished code) = 0
 kind (Waits place) = 1

@@ -13,26 +13,26 @@ use Rattle.model.specs.WaitQueues.{priorities, place, release, end-waits
 
 -- q is the queue that the call names and x its row; me and row are the caller and its row.
 module _ (q : ℕ) (x : QueueRow) where
-  -- A waiting receiver at the head gets the word, which isn't stored.
+  -- To the head receiver; nothing is stored.
   unfoldable pub deliver : ℕ → Effect
   deliver word = do
     put (queue q) (with-receivers (tail (x .receivers)) x)
     release (headD (x .receivers) 0) E-OK word
     done
 
-  -- If there is room, the word goes to the tail.
+  -- Behind the words already stored.
   unfoldable pub store : ℕ → Effect
   store word = do
     put (queue q) (with-words (x .words ++ word ∷ []) x)
     done
 
-  -- fsnd drops the oldest word and stores its own at the tail; waiting senders go on waiting.
+  -- fsnd at a full queue: the oldest word is lost, the new one comes last; no sender is served.
   unfoldable pub replace-oldest : ℕ → Effect
   replace-oldest word = do
     put (queue q) (with-words (tail (x .words) ++ word ∷ []) x)
     done
 
-  -- The sender waits, by attribute 0 in order of arrival, by 1 by task priority and then by arrival; the word is kept with the task.
+  -- The caller joins the senders, by arrival or (attribute 1) by task priority; its row keeps the word.
   unfoldable pub wait-to-send : ℕ → TaskRow → ℕ → End → Effect
   wait-to-send me row word end = do
     keys ← priorities (x .senders)
@@ -41,19 +41,20 @@ module _ (q : ℕ) (x : QueueRow) where
     put (task me) (starting (Sending q end word) row)
     return (waits n)
 
+  -- "Send", its three cases in order; `otherwise` is the third.
   unfoldable pub send : ℕ → Effect → Effect
   send word otherwise =
       if not (empty (x .receivers)) then deliver word
       else if has-room x then store word
       else otherwise
 
-  -- With words stored and no sender waiting, a is the oldest.
+  -- Words stored, no sender waiting.
   unfoldable pub take-oldest : Effect
   take-oldest = do
     put (queue q) (with-words (tail (x .words)) x)
     gives (headD (x .words) 0)
 
-  -- With words stored and a sender waiting: a is the oldest, then the head sender's word goes to the tail and that sender is released.
+  -- Words stored, a sender waiting: its word fills the freed room, and its wait ends.
   unfoldable pub take-oldest-and-refill : Effect
   take-oldest-and-refill = do
     let sender = headD (x .senders) 0
@@ -62,7 +63,7 @@ module _ (q : ℕ) (x : QueueRow) where
     put (task sender) (ended E-OK 0 y)
     gives (headD (x .words) 0)
 
-  -- With a sender waiting where no word is stored, which is at capacity 0: a is that sender's word and it is released.
+  -- No word stored, a sender waiting (so capacity 0): its word is handed over, and its wait ends.
   unfoldable pub take-from-sender : Effect
   take-from-sender = do
     let sender = headD (x .senders) 0
@@ -71,13 +72,14 @@ module _ (q : ℕ) (x : QueueRow) where
     put (task sender) (ended E-OK 0 y)
     gives (held-word (y .wait))
 
-  -- Receivers always wait in order of arrival.
+  -- By arrival, whatever the attribute.
   unfoldable pub wait-to-receive : ℕ → TaskRow → End → Effect
   wait-to-receive me row end = do
     put (queue q) (with-receivers (x .receivers ++ me ∷ []) x)
     put (task me) (starting (Receiving q end) row)
     return (waits (length (x .receivers)))
 
+  -- "Receive", likewise.
   unfoldable pub receive : Effect → Effect
   receive otherwise =
       if not (empty (x .words)) then (if empty (x .senders) then take-oldest else take-oldest-and-refill)
@@ -85,7 +87,7 @@ module _ (q : ℕ) (x : QueueRow) where
       else otherwise
 
 module _ (e : Environment) (v : View) (c : Call) where
-  -- A call that waits does so until this end, the one with a tmout until the end that its tmout sets.
+  -- The calls with and without a tmout differ only in the end of the wait.
   abbrev send-until : End → Effect
   send-until end = send (c .object) (v .the-queue) (word-of c) (wait-to-send (c .object) (v .the-queue) (c .caller) (v .caller) (word-of c) end)
 
@@ -98,7 +100,7 @@ module _ (e : Environment) (v : View) (c : Call) where
     put (queue (c .object)) (record { defined = true; attribute = c .attribute; capacity = capacity-of c; words = []; senders = []; receivers = [] })
     done
 
-  -- 3: every waiter ends with E_DLT, stored words are gone.
+  -- 3: all waits end, the senders' first; then the queue is undefined.
   abbrev pub del-dtq : Effect
   del-dtq = do
     end-waits (v .the-queue .senders) E-DLT
@@ -134,6 +136,6 @@ module _ (e : Environment) (v : View) (c : Call) where
   abbrev pub trcv-dtq : Effect
   trcv-dtq = receive-until (end-of (e .counter) (c .tmout))
 
-  -- 11: a the head sender, b the head receiver, 0 for none, c the stored count.
+  -- 11: no waiter reads as 0.
   abbrev pub ref-dtq : Effect
   ref-dtq = return (finished E-OK (headD (v .the-queue .senders) 0) (headD (v .the-queue .receivers) 0) (length (v .the-queue .words)))

@@ -39,7 +39,7 @@ task-only c = calls c (3 ∷ 4 ∷ 6 ∷ 8 ∷ 10 ∷ 13 ∷ 15 ∷ 17 ∷ [])
 unfoldable pub called-by-handler : Call → Bool
 called-by-handler c = eqb (c .caller) 0 && task-only c
 
--- sus_tsk naming the task that calls: never for caller 0.
+-- The last case of step 2: only a task can name itself.
 unfoldable pub suspends-itself : Call → Bool
 suspends-itself c = eqb (c .number) 20 && eqb (c .object) (c .caller) && not (eqb (c .caller) 0)
 
@@ -48,7 +48,7 @@ called-while-disabled c = c .disabled && (calls c (4 ∷ 6 ∷ 8 ∷ 10 ∷ 15 �
 
 -- ── Step 3 ──
 
--- Number 0 is refused as well.
+-- `valid` starts at 1, so 0 is refused.
 unfoldable pub number-outside : Call → Bool
 number-outside c =
     names-task c && not (valid (task (c .object)))

@@ -22,8 +22,8 @@ WaitsAt k (Receiving q end) = queue q ≡ k
 WaitsAt k (AtMailbox b end) = mailbox b ≡ k
 
 pub record QueuedAt (b : ℕ) (x : MessageRow) : Type 0 where
-  pub here : x .queued-in ≡ b
-  pub some : T (not (eqb b 0))
+  pub queued-here : x .queued-in ≡ b
+  pub a-mailbox : T (not (eqb b 0))
 
 pub record Linked (m : Program.Rows Row) : Type 0 where
   pub senders : (q : ℕ) → Each (λ t. WaitsAt (queue q) (m (task t) .wait)) (m (queue q) .senders)

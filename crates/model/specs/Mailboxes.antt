@@ -23,14 +23,14 @@ free-messages (g ∷ gs) rest = do
 
 -- b is the mailbox that the call names and x its row; me and row are the caller and its row.
 module _ (b : ℕ) (x : MailboxRow) where
-  -- The message goes to the head waiter, and is then free.
+  -- To the head waiter; the message is never queued, so it stays free.
   unfoldable pub deliver-message : ℕ → Effect
   deliver-message g = do
     put (mailbox b) (with-waiters (tail (x .waiters)) x)
     release (headD (x .waiters) 0) E-OK g
     done
 
-  -- The message is queued; a is the number of messages that stay ahead of it. Without attribute 2, priorities are ignored and not kept.
+  -- Behind smaller and equal priorities with attribute 2 or 3, else last; a is its place. Only with those attributes is its priority kept.
   unfoldable pub queue-message : ℕ → ℕ → Effect
   queue-message g priority = do
     keys ← message-priorities (x .messages)
@@ -39,14 +39,14 @@ module _ (b : ℕ) (x : MailboxRow) where
     put (message g) (record { queued-in = b; priority = cond (messages-by-priority (x .attribute)) priority 0 })
     gives n
 
-  -- The head message is given as a, and is then free again.
+  -- The head message leaves the queue and can be sent again.
   unfoldable pub take-message : Effect
   take-message = do
     put (mailbox b) (with-messages (tail (x .messages)) x)
     put (message (headD (x .messages) 0)) free
     gives (headD (x .messages) 0)
 
-  -- Attribute 1 or 3: waiters by task priority, equals by arrival; else by arrival.
+  -- The caller joins the waiters, by arrival or (attribute 1 or 3) by task priority.
   unfoldable pub wait-for-message : ℕ → TaskRow → End → Effect
   wait-for-message me row end = do
     keys ← priorities (x .waiters)
@@ -71,7 +71,7 @@ module _ (e : Environment) (v : View) (c : Call) where
     put (mailbox (c .object)) (record { defined = true; attribute = c .attribute; highest = cond (messages-by-priority (c .attribute)) (highest-of c) 0; waiters = []; messages = [] })
     done
 
-  -- 13: delete frees the queued messages and ends waits with E_DLT.
+  -- 13: the waits end first, then the messages are freed.
   abbrev pub del-mbx : Effect
   del-mbx = do
     end-waits (v .the-mailbox .waiters) E-DLT
@@ -95,6 +95,6 @@ module _ (e : Environment) (v : View) (c : Call) where
   abbrev pub trcv-mbx : Effect
   trcv-mbx = receive-until (end-of (e .counter) (c .tmout))
 
-  -- 18: a the head waiter, b the head message.
+  -- 18: none reads as 0.
   abbrev pub ref-mbx : Effect
   ref-mbx = return (finished E-OK (headD (v .the-mailbox .waiters) 0) (headD (v .the-mailbox .messages) 0) 0)

@@ -1,4 +1,4 @@
--- The state as a table of rows, and the tick counter beside it.
+-- Document 01, "A sound record", what equal states agree on: the state as a table of rows, with the tick counter beside it.
 use mathlib.Core.Bool.{Bool, false}
 use mathlib.Core.List.{List, [], _∷_}
 use native.Mathlib.Decide.{ℕ-discrete}
@@ -20,10 +20,11 @@ pub data Key : Type 0 where
   task suspension queue mailbox message : ℕ → Key
   deriving Discrete as Key-discrete
 
+-- Decides whether two keys are equal.
 unfoldable pub same-key : Discrete Key
 same-key = Key-discrete ℕ-discrete
 
--- A number is valid from 1 to the limit of its kind.
+-- "Valid" is document 01's word: not 0, and within the limit of its kind.
 abbrev pub valid : Key → Bool
 valid (task n) = within 1 task-limit n
 valid (suspension n) = within 1 task-limit n
@@ -83,7 +84,7 @@ Effect = Program Key Row Answer
 abbrev pub senders-by-priority : ℕ → Bool
 senders-by-priority attribute = eqb attribute 1
 
--- Mailbox attribute: 1 is added for waiters by task priority, 2 for messages by priority.
+-- A mailbox attribute is a sum: 1 where waiters go by task priority, 2 where messages go by theirs.
 abbrev pub waiters-by-priority : ℕ → Bool
 waiters-by-priority attribute = one-of attribute (1 ∷ 3 ∷ [])
 

@@ -35,8 +35,8 @@ with-all number caller object value attribute tmout =
 abbrev plain : ℕ → ℕ → ℕ → ℕ → Call
 plain number caller object value = with-all number caller object value 0 (pos 0)
 
-abbrev ticks : Call
-ticks = plain 0 H 0 0
+abbrev tick : Call
+tick = plain 0 H 0 0
 
 abbrev define : ℕ → ℕ → Call
 define t priority = plain 1 H t priority
@@ -160,10 +160,11 @@ pub record Run : Type 0 where
   pub lines : List Line
   pub leaves : ℕ
 
+-- A run from counter 0 with no tick in it.
 abbrev run : List Line → Run
 run lines = record { from = 0; lines = lines; leaves = 0 }
 
--- Each starts with tasks 1 to 4 of priority 5, 3, 5, 3; queue 1 attribute 0 capacity 2; queue 2 attribute 1 capacity 0; mailbox 1 attribute 2 highest 4.
+-- The common start, as calls by the handler.
 abbrev pub setting : List Call
 setting =
     define 1 5 ∷ define 2 3 ∷ define 3 5 ∷ define 4 3
@@ -194,9 +195,9 @@ sixteen =
     ∷ run (snd T1 1 10 ⇒ ok ∷ snd T1 1 11 ⇒ ok ∷ snd T1 1 12 ⇒ W 0 ∷ rel-wai 1 ⇒ ok ∷ fetch 1 ⇒ E-RLWAI
     ∷ prcv T2 1 ⇒ gives 10 ∷ prcv T2 1 ⇒ gives 11 ∷ prcv T2 1 ⇒ E-TMOUT ∷ [])
     -- 10
-    ∷ record { from = 0; leaves = 2; lines = trcv T1 1 (pos 2) ⇒ W 0 ∷ ticks ⇒ gives 0 ∷ ticks ⇒ gives 1 ∷ fetch 1 ⇒ E-TMOUT ∷ [] }
+    ∷ record { from = 0; leaves = 2; lines = trcv T1 1 (pos 2) ⇒ W 0 ∷ tick ⇒ gives 0 ∷ tick ⇒ gives 1 ∷ fetch 1 ⇒ E-TMOUT ∷ [] }
     -- 11
-    ∷ record { from = 4294967294; leaves = 0; lines = trcv T1 1 (pos 2) ⇒ W 0 ∷ ticks ⇒ gives 0 ∷ ticks ⇒ gives 1 ∷ fetch 1 ⇒ E-TMOUT ∷ [] }
+    ∷ record { from = 4294967294; leaves = 0; lines = trcv T1 1 (pos 2) ⇒ W 0 ∷ tick ⇒ gives 0 ∷ tick ⇒ gives 1 ∷ fetch 1 ⇒ E-TMOUT ∷ [] }
     -- 12
     ∷ run (snd-mbx T1 1 5 3 ⇒ gives 0 ∷ snd-mbx T1 1 6 1 ⇒ gives 0 ∷ snd-mbx T1 1 7 3 ⇒ gives 2
     ∷ prcv-mbx T2 1 ⇒ gives 6 ∷ prcv-mbx T2 1 ⇒ gives 5 ∷ prcv-mbx T2 1 ⇒ gives 7 ∷ [])
@@ -221,12 +222,12 @@ abbrev pub asked : Run → List Call
 asked r = map (λ line. line .asked) (r .lines)
 
 -- What the definition answers, and the counter that it leaves.
-abbrev pub played : Run → List Values × ℕ
-played r = (map values (answers step (start (r .from)) (asked r)), end step (start (r .from)) (asked r) .environment .counter)
+abbrev pub computed : Run → List Values × ℕ
+computed r = (map values (answers step (start (r .from)) (asked r)), end step (start (r .from)) (asked r) .environment .counter)
 
 -- What document 01 writes.
 abbrev pub written : Run → List Values × ℕ
 written r = (map (λ line. line .given) (r .lines), r .leaves)
 
 abbrev pub SixteenRuns : Type 0
-SixteenRuns = map played sixteen ≡ map written sixteen
+SixteenRuns = map computed sixteen ≡ map written sixteen

@@ -7,7 +7,7 @@ use lib.Dec.{leb}
 abbrev pub call-limit : ℕ
 call-limit = 23
 
--- Tasks 1 to 32, data queues 1 to 16, mailboxes 1 to 16, messages 1 to 64.
+-- The largest number of each kind; the smallest is 1.
 abbrev pub task-limit : ℕ
 task-limit = 32
 
@@ -20,19 +20,19 @@ mailbox-limit = 16
 abbrev pub message-limit : ℕ
 message-limit = 64
 
--- Capacity 0 to 16 words.
+-- The most words that a data queue stores.
 abbrev pub capacity-limit : ℕ
 capacity-limit = 16
 
--- Task priority and message priority 1 to 16.
+-- The largest priority, of tasks and of messages; the smallest is 1.
 abbrev pub priority-limit : ℕ
 priority-limit = 16
 
--- tmout is at most 2,147,483,646.
+-- The largest tmout.
 abbrev pub tmout-limit : ℕ
 tmout-limit = 2147483646
 
--- The tick counter goes from 4,294,967,295 to 0.
+-- The tick counter counts modulo this number.
 abbrev pub counter-span : ℕ
 counter-span = 4294967296
 

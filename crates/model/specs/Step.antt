@@ -1,4 +1,4 @@
--- A call from its number to its answer, and the single-call entry, where number 0 is the tick.
+-- Document 01, "The calls, by number": a call from its number to its answer; number 0 is the tick.
 use mathlib.Core.Bool.{true, cond}
 use mathlib.Core.List.{List, [], _∷_}
 use lib.Dec.{eqb}
@@ -13,7 +13,7 @@ use Rattle.model.specs.Mailboxes.{cre-mbx, del-mbx, snd-mbx, rcv-mbx, pr
 use Rattle.model.specs.Tasks.{define-task, rel-wai, sus-tsk, rsm-tsk, look, fetch, tick}
 use Rattle.model.specs.declared.Answer.{Answer}
 
--- No call: number 0 is the tick, which has no context, and other numbers are unknown.
+-- Number 0 is the tick, which has no context; step 0 has refused it as a call, and every number that isn't listed.
 abbrev pub no-call : Environment → View → Call → Effect
 no-call e v c = refuse E-PAR
 
@@ -35,7 +35,7 @@ effects =
 unfoldable pub effect : Environment → View → Call → Effect
 effect e v c = getD effects (c .number) no-call e v c
 
--- A call looks at what it names, is refused where the error table says so, and else has its effect.
+-- A call reads what it names, is refused where the error table says so, and else has its effect.
 unfoldable pub program : Environment → Call → Effect
 program e c = read-view c λ v. if refused true v c then refuse (refusal true v c) else effect e v c
 

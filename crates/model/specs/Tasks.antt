@@ -13,7 +13,7 @@ use Rattle.model.specs.WaitQueues.{end-wait}
 use Rattle.model.specs.declared.Answer.{Answer}
 
 module _ (e : Environment) (v : View) (c : Call) where
-  -- 1: a new task is able and not suspended, its stored pair 0 and 0.
+  -- 1: the whole row is written, and the suspension.
   abbrev pub define-task : Effect
   define-task = do
     put (task (c .object)) (record { defined = true; priority = task-priority-of c; wait = NoWait; code = E-OK; word = 0 })
@@ -26,7 +26,7 @@ module _ (e : Environment) (v : View) (c : Call) where
     end-wait (c .object) E-RLWAI
     done
 
-  -- 20, 21: suspended is kept beside the wait, which goes on.
+  -- 20, 21: no wait is touched.
   abbrev pub sus-tsk : Effect
   sus-tsk = do
     put (suspension (c .object)) true
@@ -37,22 +37,22 @@ module _ (e : Environment) (v : View) (c : Call) where
     put (suspension (c .object)) false
     done
 
-  -- 22. "Look" is document 01's word: a the wait's number, b the object, c 1 if suspended.
+  -- 22: "look" is document 01's word for reading a task's wait and suspension.
   abbrev pub look : Effect
   look = return (finished E-OK (wait-number (v .the-task .wait)) (wait-object (v .the-task .wait)) (cond (v .suspended) 1 0))
 
-  -- 23. "Fetch" is document 01's word: the stored pair as code and a.
+  -- 23: "fetch" is document 01's word for reading the stored pair.
   abbrev pub fetch : Effect
   fetch = return (finished (v .the-task .code) (v .the-task .word) 0 0)
 
--- Of these tasks, each whose end tick the counter has come to is ended, in turn; a is how many, n of them before.
+-- Ends the wait of each of these tasks whose end tick is the counter, in the list's order; a is how many, counting on from n.
 unfoldable pub expire : ℕ → List ℕ → ℕ → Effect
 expire counter [] n = gives n
 expire counter (t ∷ ts) n = do
   x ← get (task t)
   if due counter (wait-end (x .wait)) then end-wait t E-TMOUT (expire counter ts (suc n)) else expire counter ts n
 
--- 0: the counter goes on by one, and waits end in ascending task number.
+-- 0: all tasks, from the smallest number on.
 unfoldable pub tick : Model → Result Model Answer
 tick m =
     let counter = (m .environment .counter + 1) % counter-span in

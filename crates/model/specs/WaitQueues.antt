@@ -1,4 +1,4 @@
--- How tasks get into wait queues and out of them: what several calls share.
+-- Document 01, "Error numbers and their order" (place) and "Task states and ticks" (how a wait ends): what several calls share.
 use mathlib.Core.Bool.{Bool, cond}
 use mathlib.Core.List.{List, [], _∷_}
 use Prim.Native.Nat.{ℕ}
@@ -13,18 +13,18 @@ use Rattle.model.specs.Waits.{Wait, NoWait, Sending, Receiving, AtMailbo
 abbrev pub priorities : List ℕ → (List ℕ → Effect) → Effect
 priorities ts rest = get-each task (λ t x. x .priority) ts rest
 
--- "Place" is document 01's word: how many stay ahead. By priority, those of equal or smaller number, which came before; else all.
+-- "Place" is document 01's word: how many stay ahead of a newcomer. By priority, those of equal or smaller number; by arrival, all.
 unfoldable pub place : Bool → ℕ → List ℕ → ℕ
 place by-priority priority keys = cond by-priority (passed priority keys) (length keys)
 
--- A task that was at the head of a wait queue, and is out of it: its wait ends.
+-- The wait of a task just taken off the head of its wait queue ends.
 unfoldable pub release : ℕ → Code → ℕ → Effect → Effect
 release t code word rest = do
   x ← get (task t)
   put (task t) (ended code word x)
   rest
 
--- The task is taken out of the wait queue that its wait names; a sender's word goes with it, since it is kept with the task.
+-- The task leaves the wait queue that its wait names. A sender's word goes with it: it stands in the wait alone.
 unfoldable pub take-out : ℕ → Wait → Effect → Effect
 take-out t NoWait rest = rest
 take-out t (Sending q end word) rest = do
@@ -40,7 +40,7 @@ take-out t (AtMailbox b end) rest = do
   put (mailbox b) (with-waiters (without t (x .waiters)) x)
   rest
 
--- A wait ends wherever the task stands: with no word of its own.
+-- A wait is ended by rel_wai, the tick or a delete, at whatever place; the stored word is 0.
 unfoldable pub end-wait : ℕ → Code → Effect → Effect
 end-wait t code rest = do
   x ← get (task t)

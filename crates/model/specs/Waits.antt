@@ -11,7 +11,7 @@ pub use Rattle.model.specs.declared.End.the-variants.{Never, At}
 pub use Rattle.model.specs.declared.Wait.{Wait}
 pub use Rattle.model.specs.declared.Wait.the-variants.{NoWait, Sending, Receiving, AtMailbox}
 
--- "Able" is document 01's word for a task that is READY or RUNNING: in no wait.
+-- "Able" is document 01's word: READY and RUNNING aren't told apart. Here: in no wait. Suspension is a row of its own.
 abbrev pub able : Wait → Bool
 able NoWait = true
 able (Sending q end word) = false
@@ -45,20 +45,20 @@ wait-end (Sending q end word) = end
 wait-end (Receiving q end) = end
 wait-end (AtMailbox b end) = end
 
--- Starting a wait sets the stored pair to 0 and 0.
+-- A wait starts with the stored pair cleared.
 abbrev pub starting : Wait → TaskRow → TaskRow
 starting wait x = record { defined = x .defined; priority = x .priority; wait = wait; code = E-OK; word = 0 }
 
--- A wait ends with its code and one word in the task's record.
+-- A wait that is over leaves its code and word as the stored pair.
 abbrev pub ended : Code → ℕ → TaskRow → TaskRow
 ended code word x = record { defined = x .defined; priority = x .priority; wait = NoWait; code = code; word = word }
 
--- A wait with tmout n, begun at counter c, ends in the tick that brings the counter to c + n, modulo 4,294,967,296; tmout -1 waits for ever.
+-- The end of a wait that starts at this counter: tmout ticks on, modulo the counter's span. A negative tmout, which is -1 after step 4, sets none.
 unfoldable pub end-of : ℕ → ℤ → End
 end-of counter (pos n) = At ((counter + n) % counter-span)
 end-of counter (negsuc n) = Never
 
--- The wait ends in the tick that brings the counter here.
+-- Whether a wait with this end is over when the counter has this value.
 abbrev pub due : ℕ → End → Bool
 due counter Never = false
 due counter (At tick) = eqb tick counter

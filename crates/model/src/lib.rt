@@ -1,7 +1,7 @@
-// The words of the interface: what a call hands over, what it answers, and what a task's record says of its wait.
+// The types of the interface: what a call hands over, what it answers, and what a task's record says of its wait.
 // The definition of every call is in specs/; this crate has no code.
 
-// A call with its context. The fields are those of the 32-byte record that units write (document 02, item 3).
+// A call with its context: the call's fields of the 32-byte record that units write (document 02, item 3), its two flags apart.
 pub struct Call {
     // The number in document 01's table of calls.
     pub number: u8,

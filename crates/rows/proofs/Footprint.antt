@@ -1,4 +1,4 @@
--- A program within a set of rows leaves the rows outside alone and goes by nothing outside, and its answers are what its ends say: by induction on programs.
+-- A program within a set of rows leaves the rows outside alone and depends on none of them, and its answers are as its ends say: by induction on programs.
 use mathlib.Core.Path.{_≡_, refl, sym, _∙_, subst}
 use mathlib.Core.Bool.{Bool, true, false, not}
 use mathlib.Core.List.{List, [], _∷_}

@@ -1,4 +1,4 @@
--- Programs over rows. A state is a table of rows, each found by its key; a program reads rows, writes rows, goes by tests and returns an answer.
+-- Programs over rows. A state is a table of rows, each found by its key; a program reads rows, writes rows, branches on tests and returns an answer.
 use mathlib.Core.Path.{subst⁻¹}
 use mathlib.Core.Bool.{Bool, true, false}
 use mathlib.Core.List.{List, [], _∷_}
@@ -26,7 +26,7 @@ get-each key read (n ∷ ns) rest = do
   others ← get-each key read ns
   rest (read n row ∷ others)
 
--- The state that a step leaves, and its answer.
+-- What a step hands back.
 pub record Result (S A : Type 0) : Type 0 where
   pub state : S
   pub answer : A
