@@ -1,6 +1,7 @@
 -- What holds of every element of a list holds of every element of the lists made from it: by induction on the evidence.
+use mathlib.Core.Path.{_≡_}
 use mathlib.Core.Bool.{not}
-use mathlib.Core.List.{List, _++_, tail, headD}
+use mathlib.Core.List.{List, [], _∷_, _++_, tail, headD, cons≢nil}
 use Prim.Native.Nat.{ℕ, zero, suc}
 use lib.Dec.{T}
 use lib.ListN.{take, drop}
@@ -45,3 +46,13 @@ each-without n e = each-remove _ e
 pub each-map : {X : Type 0} {P Q : X → Type 0} → ((x : X) → P x → Q x) → {l : List X} → Each P l → Each Q l
 each-map f none = none
 each-map f (both {x = x} p e) = both (f x p) (each-map f e)
+
+-- What holds of everything holds of every element.
+pub each-of-all : {X : Type 0} {P : X → Type 0} → ((x : X) → P x) → (l : List X) → Each P l
+each-of-all h [] = none
+each-of-all h (x ∷ xs) = both (h x) (each-of-all h xs)
+
+-- What holds where there is an element holds beside each element.
+pub each-beside : {X P : Type 0} {Q : X → Type 0} (l : List X) → ((l ≡ [] → ⊥) → P) → Each Q l → Each (λ x. P × Q x) l
+each-beside l h none = none
+each-beside {P = P} l h (both q e) = let p : P = h cons≢nil in both (p, q) (each-map (λ x r. (p, r)) e)

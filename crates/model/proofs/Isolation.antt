@@ -1,12 +1,11 @@
 -- Demand 3: a carrier's part of the state is its rows with whatever stands in its objects at the start; no other carrier's call touches it.
 use mathlib.Core.Path.{_≡_, refl, sym, _∙_, ap, subst}
 use mathlib.Core.Bool.{Bool, true, false, cond}
-use mathlib.Core.List.{List, [], cons≢nil}
 use Prim.Native.Nat.{ℕ}
 use native.Mathlib.Omega.{arith}
 use lib.Dec.{T, eqb}
-use Rattle.lists.specs.Lists.{Each, none, both}
-use Rattle.lists.proofs.Each.{each-map}
+use Rattle.lists.specs.Lists.{none}
+use Rattle.lists.proofs.Each.{each-map, each-beside}
 use Rattle.rows.specs.Program as Program
 use Rattle.rows.proofs.Footprint.{Closed}
 use Rattle.rows.proofs.Owned.{separate-programs}
@@ -86,17 +85,12 @@ module _ {I : Type 0} (o : Owners I) where
 
 -- ── Any number of carriers ──
 
--- What holds of an owner that has calls holds beside each of its calls.
-beside-each : {X P : Type 0} {Q : X → Type 0} (l : List X) → ((l ≡ [] → ⊥) → P) → Each Q l → Each (λ x. P × Q x) l
-beside-each l h none = none
-beside-each {X = X} {P = P} {Q = Q} l h (both q e) = let p : P = h cons≢nil in both (p, q) (each-map (λ x r. (p, r)) e)
-
 pub isolation-of-many : IsolationOfMany
 isolation-of-many I same-owner m linked o lists placed own =
     separate-programs same-key same-owner NamedIn program step (part o (m .rows)) Of (λ a. Unit)
     (λ i e c h. in-program (λ k. part o (m .rows) k ≡ i) e c (each-map (λ k g t. part-own o (m .rows) i (h .0) k (g t)) (h .1 .own-names)))
     (λ i s c h. step-call s c (h .1 .no-tick))
-    m lists (part-closed o (m .rows) linked) (λ i. beside-each (lists i) (placed i) (own i))
+    m lists (part-closed o (m .rows) linked) (λ i. each-beside (lists i) (placed i) (own i))
   where
     Of : I → Call → Type 0
     Of i c = Placed (OwnedBy o i) (m .rows) × CallOf (OwnedBy o i) c

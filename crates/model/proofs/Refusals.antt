@@ -1,7 +1,6 @@
 -- The table refuses and nothing else does: a call by cases, refused or not, and the answers of its effect.
 use mathlib.Core.Path.{_∙_, ap}
-use mathlib.Core.List.{List, [], _∷_}
-use Rattle.lists.specs.Lists.{Each, none, both}
+use Rattle.lists.proofs.Each.{each-of-all}
 use Rattle.rows.specs.Program as Program
 use Rattle.rows.specs.Program.{step-of}
 use Rattle.rows.proofs.Footprint.{Closed, answer-is}
@@ -19,10 +18,6 @@ use Rattle.model.proofs.Footprints.{NamedIn, AnswersNoError, ViewWithin
 abbrev Everything : Key → Type 0
 Everything k = Unit
 
-each-thing : {X : Type 0} {P : X → Type 0} → ((x : X) → P x) → (l : List X) → Each P l
-each-thing h [] = none
-each-thing h (x ∷ xs) = both (h x) (each-thing h xs)
-
 waits-in : (w : Wait) → WaitsIn Everything w
 waits-in NoWait = tt
 waits-in (Sending q end word) = tt
@@ -33,8 +28,8 @@ closed : (m : Program.Rows Row) → Closed NamedIn Everything m
 unfolding QueuedIn
 closed m (task n) s = waits-in (m (task n) .wait)
 closed m (suspension n) s = tt
-closed m (queue n) s = (each-thing (λ t. tt) _, each-thing (λ t. tt) _)
-closed m (mailbox n) s = (each-thing (λ t. tt) _, each-thing (λ g. tt) _)
+closed m (queue n) s = (each-of-all (λ t. tt) _, each-of-all (λ t. tt) _)
+closed m (mailbox n) s = (each-of-all (λ t. tt) _, each-of-all (λ g. tt) _)
 closed m (message n) s = λ t. tt
 
 pub refusals : Refusals
@@ -43,9 +38,9 @@ refusals m c t = record {
   by-row = λ r. step-call m c t ∙ ap (λ o. record { state = record { environment = m .environment; rows = o .state }; answer = o .answer }) (run-refused (m .environment) c (m .rows) r);
   else-no-error = λ r n.
       let v = view-of (m .rows) c in
-      let row-if-valid : ViewWithin Everything v = record { senders = each-thing (λ t. tt) _; receivers = each-thing (λ t. tt) _; waiters = each-thing (λ t. tt) _; messages = each-thing (λ g. tt) _ } in
+      let row-if-valid : ViewWithin Everything v = record { senders = each-of-all (λ t. tt) _; receivers = each-of-all (λ t. tt) _; waiters = each-of-all (λ t. tt) _; messages = each-of-all (λ g. tt) _ } in
       rw (step-call m c t, run-accepted (m .environment) c (m .rows) r)
       (answer-is same-key NamedIn Everything (AnswersNoError (c .number)) (effect (m .environment) v c) (m .rows)
-      (in-effect Everything (m .environment) v c row-if-valid (accepted Everything v c (each-thing (λ k t. tt) _) r) (passes v c r))
+      (in-effect Everything (m .environment) v c row-if-valid (accepted Everything v c (each-of-all (λ k t. tt) _) r) (passes v c r))
       (closed (m .rows)) n);
 }
