@@ -1,4 +1,7 @@
 pub mod Each
 pub mod Positions
 pub mod Places
+pub mod Tests
+pub mod Members
+pub mod Order
 pub mod Samples

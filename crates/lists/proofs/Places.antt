@@ -1,11 +1,14 @@
 -- What the places of a queue are: by induction on the list.
-use mathlib.Core.Path.{_≡_, refl, ap}
+use mathlib.Core.Path.{_≡_, refl, sym, ap}
 use mathlib.Core.Bool.{Bool, true, false, not, cond}
-use mathlib.Core.List.{List, [], _∷_}
+use mathlib.Core.List.{List, [], _∷_, List·Memᴰ as In, List·Memᴰ·not-nil, List·Memᴰ·cases-cons}
+use mathlib.Core.Logic.{_⊎_, inl, inr}
 use Prim.Native.Nat.{ℕ, zero, suc, _≤_, _<_}
 use native.Mathlib.Nat.{le-of-suc-le-suc, not-suc-le-zero}
+use native.Mathlib.Omega.{arith}
 use lib.Dec.{T, leb, eqb, leb→le, nleb→lt, eqb→eq}
 use lib.ListN.{length, getD, take}
+use borrow.Author.Tests.{eqb-false}
 use Rattle.lists.specs.Lists.{Each, none, both, insert-at, remove-at, ahead, passed}
 
 -- A newcomer goes behind keys of at most its own.
@@ -46,3 +49,14 @@ at-ahead n (x ∷ xs) = go (eqb x n) (eqb→eq x n) (at-ahead n xs)
         → cond b 0 (suc (ahead n xs)) < suc (length xs) → getD (x ∷ xs) (cond b 0 (suc (ahead n xs))) 0 ≡ n
     go true h e l = h tt
     go false h e l = e (le-of-suc-le-suc l)
+
+-- Fewer than all stand ahead of a number that is there.
+pub ahead-in : (n : ℕ) (xs : List ℕ) → In n xs → ahead n xs < length xs
+unfolding ahead
+ahead-in n [] m = absurd (List·Memᴰ·not-nil m)
+ahead-in n (x ∷ xs) m = go (eqb x n) refl (List·Memᴰ·cases-cons m) (ahead-in n xs)
+  where
+    go : (b : Bool) → eqb x n ≡ b → (n ≡ x) ⊎ In n xs → (In n xs → ahead n xs < length xs) → cond b 0 (suc (ahead n xs)) < suc (length xs)
+    go true e o h = omega arith
+    go false e (inl q) h = absurd (eqb-false x n e (sym q))
+    go false e (inr i) h = let r = h i in omega arith

@@ -1,7 +1,7 @@
 -- Lists as queues, whose head is served first: definitions that the library lacks.
 use mathlib.Core.Bool.{Bool, true, false, cond, _||_}
 use mathlib.Core.List.{List, [], _∷_, _++_}
-use Prim.Native.Nat.{ℕ, zero, suc}
+use Prim.Native.Nat.{ℕ, zero, suc, _≤_}
 use lib.Dec.{leb, eqb}
 use lib.ListN.{take, drop}
 
@@ -38,6 +38,11 @@ without n xs = remove-at (ahead n xs) xs
 unfoldable pub passed : ℕ → List ℕ → ℕ
 passed limit [] = 0
 passed limit (key ∷ keys) = cond (leb key limit) (suc (passed limit keys)) 0
+
+-- The keys are from least to most, and no larger one stands before a smaller.
+pub data InOrder : ℕ → ℕ → List ℕ → Type 0 where
+  no-key : {least most : ℕ} → InOrder least most []
+  next-key : {least most key : ℕ} {keys : List ℕ} → least ≤ key → key ≤ most → InOrder key most keys → InOrder least most (key ∷ keys)
 
 -- The number is one of these.
 unfoldable pub one-of : ℕ → List ℕ → Bool

@@ -1,0 +1,81 @@
+-- `sound` is exact. The invariant: the chains passed are chains, and the marks say which number stands in which of them. The chains left get fewer.
+use Prim.Native.Nat.{_+_, _-_, _<_, _≤_}
+use mathlib.Core.Path.{_≡_, _∙_}
+use native.Mathlib.Omega.{arith}
+use borrow.Author.Tests.{not-true, not-false}
+use Rattle.chain.specs.Walks.{MarkedBelow}
+use Rattle.chain.proofs.Marks.{marked-below-none, marked-below-more, tested-true, tested-false}
+use Rattle.chain.proofs.sound.Statement.{statement}
+use Rattle.chain.proofs.sound.Tie as tie
+
+abbrev Inv-loop : tie.InvT-loop
+Inv-loop link numbers chains standing₀ chain₀ standing chain = (0 < chain) × (chain ≤ chains + 1) × MarkedBelow numbers chain link standing
+
+abbrev μ-loop : tie.MeasureT-loop
+μ-loop link numbers chains standing₀ chain₀ standing chain = chains + 1 - chain
+
+loop-holds : tie.Need-loop-holds Inv-loop μ-loop
+loop-holds c = (omega arith, omega arith, marked-below-none _ (c .pre .1))
+
+add-mark : tie.Need-add-mark Inv-loop μ-loop
+add-mark c =
+    let h = c .before .before .before .pre .0 .heads-fit in
+    let b = c .before .loop-test .taken in
+    omega arith
+
+cast-mark : tie.Need-cast-mark Inv-loop μ-loop
+cast-mark c =
+    let h = c .before .before .before .pre .0 .heads-fit in
+    let b = c .before .loop-test .taken in
+    omega arith
+
+mark-requires : tie.Need-mark-requires Inv-loop μ-loop
+mark-requires c κs =
+    let t = c .before .before .before .pre .0 in
+    let h = t .heads-fit in
+    let b = c .before .loop-test .taken in
+    let i = c .before .before .loop .inv in
+    record { cells-are = t .cells-are; marks-are = i .2 .size; keys-fit = t .keys-fit; cell-fits = omega arith; mark-positive = i .0 }
+
+returns : tie.Need-returns Inv-loop μ-loop
+returns c =
+    let i = c .before .before .before .before .loop .inv in
+    tested-false (i .0) (c .before .before .before .loop-test .taken) (i .2) (rw (not-true (c .before .mark .result) (c .if1 .taken)) at (c .before .mark .ensures))
+
+add-chain : tie.Need-add-chain Inv-loop μ-loop
+add-chain c =
+    let h = c .before .before .before .before .before .pre .0 .heads-fit in
+    let b = c .before .before .before .loop-test .taken in
+    omega arith
+
+loop-less : tie.Need-loop-less Inv-loop μ-loop
+loop-less c = let b = c .before .before .before .loop-test .taken in omega arith
+
+loop-again : tie.Need-loop-again Inv-loop μ-loop
+loop-again c =
+    let i = c .before .before .before .before .loop .inv in
+    let b = c .before .before .before .loop-test .taken in
+    (omega arith, omega arith, marked-below-more (i .0) (c .before .before .before .before .before .pre .0 .keys-fit) (i .2) (rw (not-false (c .before .mark .result) (c .if1 .left)) at (c .before .mark .ensures)))
+
+returns-2 : tie.Need-returns-2 Inv-loop μ-loop
+returns-2 c =
+    let i = c .before .loop .inv in
+    let b = c .loop-test .left in
+    let e : c .before .loop .chain ≡ c .before .before .args .chains + 1 = let h = i .1 in omega arith in
+    tested-true (c .before .before .pre .0) (rw e at (i .2))
+
+pub sound-spec : {M : Type 1} → statement M
+sound-spec =
+    tie.close
+    (tie.spec
+    Inv-loop
+    μ-loop
+    loop-holds
+    add-mark
+    cast-mark
+    mark-requires
+    returns
+    add-chain
+    loop-less
+    loop-again
+    returns-2)

@@ -1,0 +1,75 @@
+-- What the walks along a chain ask and find. No caller of the crate sees these: they speak of cells.
+use mathlib.Core.Path.{_≡_}
+use mathlib.Core.Bool.{Bool, true, false}
+use mathlib.Core.List.{List, [], _∷_, List·Memᴰ as In}
+use Prim.Native.Nat.{ℕ, _+_, _<_, _≤_}
+use lib.Dec.{leb}
+use lib.ListN.{length, getD, drop, set}
+use Rattle.lists.specs.Lists.{ahead, passed}
+use Rattle.chain.specs.Table.{cells, key-cells, follow, Chain, keys-of}
+
+-- A chain stands behind the cell.
+pub record Walk (numbers cell : ℕ) (s : List ℕ) : Type 0 where
+  pub cells-are : length s ≡ cells
+  pub keys-fit : numbers < key-cells
+  pub cell-fits : cell < cells
+  pub chain : Chain numbers s cell (follow numbers s cell)
+
+-- The walk from the head's cell has come to a cell, with so many numbers behind it.
+pub record Reached (numbers head : ℕ) (s : List ℕ) (at place : ℕ) : Type 0 where
+  pub walk : Walk numbers at s
+  pub place-fits : place ≤ length (follow numbers s head)
+  pub at-is : at ≡ getD (head ∷ follow numbers s head) place 0
+  pub left : drop place (follow numbers s head) ≡ follow numbers s at
+
+-- A key is passed by a limit, and any key by 255.
+pub record Passes (key limit : ℕ) (answer : Bool) : Type 0 where
+  pub answer-is : answer ≡ leb key limit
+  pub all : limit ≡ 255 → answer ≡ true
+
+-- The cell behind which a newcomer with this limit belongs.
+pub record Sought (numbers head limit : ℕ) (s key : List ℕ) (at place : ℕ) : Type 0 where
+  pub reached : Reached numbers head s at place
+  pub place-is : place ≡ passed limit (keys-of key (follow numbers s head))
+  pub at-the-end : limit ≡ 255 → place ≡ length (follow numbers s head)
+
+-- The cell ahead of the number, or the last one where the number isn't there.
+pub record Found (numbers head x : ℕ) (s : List ℕ) (at place : ℕ) : Type 0 where
+  pub reached : Reached numbers head s at place
+  pub place-is : place ≡ ahead x (follow numbers s head)
+
+-- What a marking walk asks. The marks are 0 or the number of a chain.
+pub record Marking (numbers cell mark : ℕ) (s marks : List ℕ) : Type 0 where
+  pub cells-are : length s ≡ cells
+  pub marks-are : length marks ≡ key-cells
+  pub keys-fit : numbers < key-cells
+  pub cell-fits : cell < cells
+  pub mark-positive : 0 < mark
+
+-- No number of the list is marked.
+abbrev pub Unmarked : List ℕ → List ℕ → Type 0
+Unmarked marks l = (x : ℕ) → In x l → getD marks x 0 ≡ 0
+
+-- The marks with this one set at each number of a list.
+abbrev pub mark-all : List ℕ → List ℕ → ℕ → List ℕ
+mark-all marks [] mark = marks
+mark-all marks (x ∷ l) mark = mark-all (set marks x mark) l mark
+
+-- A chain of unmarked numbers stands behind the cell, and its numbers are marked now.
+pub record Marked (numbers cell mark : ℕ) (s marks marks' : List ℕ) : Type 0 where
+  pub chain : Chain numbers s cell (follow numbers s cell)
+  pub unmarked : Unmarked marks (follow numbers s cell)
+  pub marks-are : marks' ≡ mark-all marks (follow numbers s cell) mark
+
+-- The answer says whether such a chain, of at most `left` numbers, stands behind the cell.
+pub record Marks (numbers cell mark left : ℕ) (s marks marks' : List ℕ) (answer : Bool) : Type 0 where
+  pub size : length marks' ≡ length marks
+  pub if-true : answer ≡ true → Marked numbers cell mark s marks marks'
+  pub if-false : answer ≡ false → (l : List ℕ) → Chain numbers s cell l → length l ≤ left → Unmarked marks l → ⊥
+
+-- The chains below k are chains, and the marks say which numbers stand in which of them.
+pub record MarkedBelow (numbers k : ℕ) (s marks : List ℕ) : Type 0 where
+  pub size : length marks ≡ key-cells
+  pub chain : (j : ℕ) → 0 < j → j < k → Chain numbers s (numbers + j) (follow numbers s (numbers + j))
+  pub marked : {j x : ℕ} → 0 < j → j < k → In x (follow numbers s (numbers + j)) → getD marks x 0 ≡ j
+  pub stands : {j x : ℕ} → 0 < j → getD marks x 0 ≡ j → (j < k) × In x (follow numbers s (numbers + j))

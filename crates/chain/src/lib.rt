@@ -1,0 +1,270 @@
+// Chains of numbers: tasks that wait and messages that are queued (document 01: chains serve data queues and mailboxes alike). One table of cells holds all chains of one kind of numbers; its list
+// meaning is in specs/Table.antt. A caller names numbers and chains, never a cell: all promises are about the lists.
+//
+// Each function takes the table's size: it has the numbers 1 to `numbers` and the chains 1 to `chains`. A table for more chains needs a longer array and nothing else.
+ghost use mathlib.Core.Path.{_≡_};
+ghost use mathlib.Core.List.{[]};
+ghost use Prim.Native.Nat.{_<_, _≤_};
+ghost use lib.ListN.{length, getD, replicate};
+ghost use Rattle.lists.specs.Lists.{InOrder};
+ghost use Rattle.lists.specs.Tests.{Is};
+ghost use Rattle.chain.specs.Table.{key-cells, follow, lists, chain-of, keys-of, Sound};
+ghost use Rattle.chain.specs.Walks.{Walk, Passes, Sought, Found, Marking, Marks};
+ghost use Rattle.chain.specs.Changes.{HasChain, Changed, Insertable, Inserted, Popped, Removed, Testable, Tested};
+
+pub const CELLS: usize = 81;
+
+pub const KEY_CELLS: usize = 65;
+
+// A table of chains, with a key for each number: a task's priority, or the priority kept with a message.
+pub struct Chains {
+    pub link: [u8; CELLS],
+    pub key: [u8; KEY_CELLS],
+}
+
+// A cell of a chain, and how many numbers stand ahead of what comes behind it.
+struct Spot {
+    at: usize,
+    place: usize,
+}
+
+fn wide(x: u8) -> usize
+    ensures { λ r. ⌜ r ≡ x ⌝ }
+{
+    x as usize
+}
+
+// Whether a newcomer with this limit goes behind a number with this key.
+fn passes(key: u8, limit: u8) -> bool
+    ensures { λ r. ⌜ Passes key limit r ⌝ }
+{
+    key <= limit
+}
+
+// Walks past the numbers whose keys the limit passes.
+fn seek<'a>(
+    link: &'a [u8; CELLS],
+    key: &'a [u8; KEY_CELLS],
+    numbers: usize,
+    head: usize,
+    limit: u8,
+) -> Spot
+    requires { ⌜ Walk numbers head (now link) × (length (now key) ≡ key-cells) ⌝ }
+    ensures { λ r. ⌜ Sought numbers head limit (now (link .entry)) (now (key .entry)) (r .at) (r .place) ⌝ }
+{
+    let mut at = head;
+    let mut place: usize = 0;
+    let mut next = wide(link[at]);
+    while next != 0 {
+        if !passes(key[next], limit) {
+            return Spot { at, place };
+        }
+        at = next;
+        place += 1;
+        next = wide(link[at]);
+    }
+    Spot { at, place }
+}
+
+// Walks up to a number.
+fn find(link: &[u8; CELLS], numbers: usize, head: usize, number: u8) -> Spot
+    requires { ⌜ Walk numbers head (now link) ⌝ }
+    ensures { λ r. ⌜ Found numbers head number (now (link .entry)) (r .at) (r .place) ⌝ }
+{
+    let mut at = head;
+    let mut place: usize = 0;
+    let mut next = link[at];
+    while next != 0 {
+        if next == number {
+            return Spot { at, place };
+        }
+        at = wide(next);
+        place += 1;
+        next = link[at];
+    }
+    Spot { at, place }
+}
+
+// Puts a number that stands in no chain into a chain, behind all whose key is at most the limit. Returns how many are ahead of it.
+pub fn insert(
+    link: &mut [u8; CELLS],
+    key: &[u8; KEY_CELLS],
+    numbers: usize,
+    chains: usize,
+    chain: usize,
+    number: u8,
+    limit: u8,
+) -> usize
+    requires { ⌜ Insertable numbers chains chain number (now link) (now key) ⌝ }
+    ensures { λ r. ⌜ Inserted numbers chains chain number limit (now (link .entry)) (now (key .entry)) (now (link .exit)) r ⌝ }
+{
+    let spot = seek(link, key, numbers, numbers + chain, limit);
+    let at = spot.at;
+    let x = wide(number);
+    link[x] = link[at];
+    link[at] = number;
+    spot.place
+}
+
+// Takes the first number out of a chain; 0 where there is none.
+pub fn pop(link: &mut [u8; CELLS], numbers: usize, chains: usize, chain: usize) -> u8
+    requires { ⌜ HasChain numbers chains chain (now link) ⌝ }
+    ensures { λ r. ⌜ Popped numbers chains chain (now (link .entry)) (now (link .exit)) r ⌝ }
+{
+    let head = numbers + chain;
+    let number = link[head];
+    if number != 0 {
+        let x = wide(number);
+        link[head] = link[x];
+    }
+    number
+}
+
+// Takes a number out of its chain. Returns how many were ahead of it.
+pub fn remove(
+    link: &mut [u8; CELLS],
+    numbers: usize,
+    chains: usize,
+    chain: usize,
+    number: u8,
+) -> usize
+    requires { ⌜ HasChain numbers chains chain (now link) × (chain-of number (lists numbers chains (now link)) ≡ chain) ⌝ }
+    ensures { λ r. ⌜ Removed numbers chains chain number (now (link .entry)) (now (link .exit)) r ⌝ }
+{
+    let spot = find(link, numbers, numbers + chain, number);
+    let at = spot.at;
+    let x = wide(number);
+    link[at] = link[x];
+    spot.place
+}
+
+// Takes all numbers out of a chain.
+pub fn clear(link: &mut [u8; CELLS], numbers: usize, chains: usize, chain: usize)
+    requires { ⌜ HasChain numbers chains chain (now link) ⌝ }
+    ensures { λ _. ⌜ Changed numbers chains chain (now (link .entry)) (now (link .exit)) [] ⌝ }
+{
+    link[numbers + chain] = 0;
+}
+
+// The first number of a chain; 0 where there is none.
+pub fn first(link: &[u8; CELLS], numbers: usize, chains: usize, chain: usize) -> u8
+    requires { ⌜ HasChain numbers chains chain (now link) ⌝ }
+    ensures { λ r. ⌜ r ≡ getD (getD (lists numbers chains (now (link .entry))) chain []) 0 0 ⌝ }
+{
+    link[numbers + chain]
+}
+
+// Which chain a number stands in; 0 where it stands in none.
+pub fn chain_of(link: &[u8; CELLS], numbers: usize, chains: usize, number: u8) -> usize
+    requires { ⌜ Sound numbers chains (now link) × (0 < number) ⌝ }
+    ensures { λ r. ⌜ r ≡ chain-of number (lists numbers chains (now (link .entry))) ⌝ }
+{
+    let mut chain: usize = 1;
+    while chain <= chains {
+        let spot = find(link, numbers, numbers + chain, number);
+        let at = spot.at;
+        if link[at] == number {
+            return chain;
+        }
+        chain += 1;
+    }
+    0
+}
+
+// Whether the keys behind a cell are from least to most, no larger one before a smaller.
+fn in_order_from<'a>(
+    link: &'a [u8; CELLS],
+    key: &'a [u8; KEY_CELLS],
+    numbers: usize,
+    cell: usize,
+    least: u8,
+    most: u8,
+) -> bool
+    requires { ⌜ Walk numbers cell (now link) × (length (now key) ≡ key-cells) ⌝ }
+    ensures { λ r. ⌜ Is (InOrder least most (keys-of (now (key .entry)) (follow numbers (now (link .entry)) cell))) r ⌝ }
+{
+    let next = wide(link[cell]);
+    if next == 0 {
+        return true;
+    }
+    let k = key[next];
+    if k < least {
+        return false;
+    }
+    if most < k {
+        return false;
+    }
+    in_order_from(link, key, numbers, next, k, most)
+}
+
+// Whether the keys of a chain are from least to most, no larger one before a smaller.
+pub fn in_order<'a>(
+    link: &'a [u8; CELLS],
+    key: &'a [u8; KEY_CELLS],
+    numbers: usize,
+    chains: usize,
+    chain: usize,
+    least: u8,
+    most: u8,
+) -> bool
+    requires { ⌜ HasChain numbers chains chain (now link) × (length (now key) ≡ key-cells) ⌝ }
+    ensures { λ r. ⌜ Is (InOrder least most (keys-of (now (key .entry)) (getD (lists numbers chains (now (link .entry))) chain []))) r ⌝ }
+{
+    in_order_from(link, key, numbers, numbers + chain, least, most)
+}
+
+// Follows the chain behind a cell for at most `left` numbers and marks each. False where the chain is longer, meets a number that isn't the table's or one that is marked already.
+fn mark(
+    link: &[u8; CELLS],
+    marks: &mut [u8; KEY_CELLS],
+    numbers: usize,
+    cell: usize,
+    chain: u8,
+    left: usize,
+) -> bool
+    requires { ⌜ Marking numbers cell chain (now link) (now marks) ⌝ }
+    ensures { λ r. ⌜ Marks numbers cell chain left (now (link .entry)) (now (marks .entry)) (now (marks .exit)) r ⌝ }
+{
+    let next = wide(link[cell]);
+    if next == 0 {
+        return true;
+    }
+    if left == 0 {
+        return false;
+    }
+    if numbers < next {
+        return false;
+    }
+    if marks[next] != 0 {
+        return false;
+    }
+    marks[next] = chain;
+    mark(link, marks, numbers, next, chain, left - 1)
+}
+
+// Whether a table is sound, whatever its cells hold. `standing`, lent with zeros, then has for each number the chain that it stands in.
+pub fn sound(
+    link: &[u8; CELLS],
+    numbers: usize,
+    chains: usize,
+    standing: &mut [u8; KEY_CELLS],
+) -> bool
+    requires { ⌜ Testable numbers chains (now link) × (now standing ≡ replicate key-cells 0) ⌝ }
+    ensures { λ r. ⌜ Tested numbers chains (now (link .entry)) (now (standing .exit)) r ⌝ }
+{
+    let mut chain: usize = 1;
+    while chain <= chains {
+        if !mark(
+            link,
+            standing,
+            numbers,
+            numbers + chain,
+            chain as u8,
+            numbers,
+        ) {
+            return false;
+        }
+        chain += 1;
+    }
+    true
+}

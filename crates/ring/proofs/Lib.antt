@@ -1,0 +1,4 @@
+pub mod Places
+pub mod Ascending
+pub mod Words
+pub mod Stored

@@ -1,0 +1,55 @@
+-- Document 01, "Data queues" (stored words) and "A sound record" (where a ring starts, unused cells): which words a ring stores, and what its methods promise.
+--
+-- Free, and seen by no caller: where the ring starts, which is any of its places, and the cells outside the stored words, which hold anything. Neither counts for equality.
+use mathlib.Core.Path.{_≡_}
+use mathlib.Core.List.{List, [], _∷_, _++_, map}
+use Prim.Native.Nat.{ℕ, _+_, _%_, _<_, _≤_}
+use lib.ListN.{getD, drop}
+use Rattle.lists.specs.Lists.{ascending}
+use Rattle.ring.specs.declared.Ring.{Ring}
+
+-- How many places a ring has.
+abbrev pub places : ℕ
+places = 16
+
+-- The place that is n further than one, in a ring of so many places.
+unfoldable pub further : ℕ → ℕ → ℕ → ℕ
+further size place n = (place + n) % size
+
+-- The words at so many places from a head on. What is read at a place is a parameter: this says nothing of where the words lie.
+unfoldable pub words-from : (ℕ → ℕ) → ℕ → ℕ → ℕ → List ℕ
+words-from word-at size head count = map (λ n. word-at (further size head n)) (ascending 0 count)
+
+-- The stored words, oldest first.
+unfoldable pub stored : Ring → List ℕ
+stored r = words-from (λ place. getD (r .words) place 0) places (r .head) (r .count)
+
+-- The ring starts at one of its places, and stores no more words than its capacity, which is at most its places.
+pub record InRange (head count capacity : ℕ) : Type 0 where
+  pub head-is-place : head < places
+  pub count-fits : count ≤ capacity
+  pub capacity-fits : capacity ≤ places
+
+-- What holds of every ring that a method hands back: it is in range, with the capacity asked for.
+pub record Kept (capacity : ℕ) (r : Ring) : Type 0 where
+  pub in-range : InRange (r .head) (r .count) (r .capacity)
+  pub capacity-is : r .capacity ≡ capacity
+
+pub record Empty (capacity : ℕ) (r : Ring) : Type 0 where
+  pub words-are : stored r ≡ []
+  pub kept : Kept capacity r
+
+-- The word is stored behind those that were.
+pub record Pushed (s : Ring) (word : ℕ) (r : Ring) : Type 0 where
+  pub words-are : stored r ≡ stored s ++ word ∷ []
+  pub kept : Kept (s .capacity) r
+
+-- The word was the oldest, and those behind it are left.
+pub record Popped (s : Ring) (word : ℕ) (r : Ring) : Type 0 where
+  pub words-were : stored s ≡ word ∷ stored r
+  pub kept : Kept (s .capacity) r
+
+-- The oldest word is gone, and the word is stored behind the others.
+pub record Replaced (s : Ring) (word : ℕ) (r : Ring) : Type 0 where
+  pub words-are : stored r ≡ drop 1 (stored s) ++ word ∷ []
+  pub kept : Kept (s .capacity) r

@@ -1,0 +1,109 @@
+// A store of words, as a ring (document 01: each queue's control record holds its own ring of 16 words). Every method is by value and is promised on the list of
+// stored words, oldest first.
+ghost use mathlib.Core.Path.{_≡_};
+ghost use mathlib.Core.List.{[]};
+ghost use Prim.Native.Nat.{_<_, _≤_};
+ghost use lib.ListN.{length};
+ghost use Rattle.lists.specs.Tests.{Is};
+ghost use Rattle.ring.specs.Ring.{places, further, stored, InRange, Empty, Pushed, Popped, Replaced};
+
+pub const PLACES: usize = 16;
+
+pub struct Ring {
+    pub words: [u32; PLACES],
+    pub head: u8,
+    pub count: u8,
+    pub capacity: u8,
+}
+
+// The oldest word, and the ring without it.
+pub struct Taken {
+    pub word: u32,
+    pub ring: Ring,
+}
+
+// The place after one. The last is followed by the first.
+pub fn next_place(place: u8) -> u8
+    requires { ⌜ place < places ⌝ }
+    ensures { λ r. ⌜ r ≡ further places place 1 ⌝ }
+{
+    (place + 1) % 16
+}
+
+// The place that is n further than one.
+pub fn place_further(place: u8, n: u8) -> usize
+    requires { ⌜ (place < places) × (n ≤ places) ⌝ }
+    ensures { λ r. ⌜ r ≡ further places place n ⌝ }
+{
+    ((place + n) % 16) as usize
+}
+
+// Whether a ring with these numbers is in range.
+pub fn in_range(head: u8, count: u8, capacity: u8) -> bool
+    ensures { λ r. ⌜ Is (InRange head count capacity) r ⌝ }
+{
+    (head < 16) & (count <= capacity) & (capacity <= 16)
+}
+
+impl Ring {
+    // An empty ring.
+    pub fn new(capacity: u8) -> Ring
+        requires { ⌜ capacity ≤ places ⌝ }
+        ensures { λ r. ⌜ Empty capacity r ⌝ }
+    {
+        Ring {
+            words: [0; PLACES],
+            head: 0,
+            count: 0,
+            capacity,
+        }
+    }
+
+    // How many words are stored.
+    pub fn length(self) -> u8
+        ensures { λ r. ⌜ r ≡ length (stored self) ⌝ }
+    {
+        self.count
+    }
+
+    // How many words may be stored.
+    pub fn capacity(self) -> u8
+        ensures { λ r. ⌜ r ≡ self .capacity ⌝ }
+    {
+        self.capacity
+    }
+
+    // Stores a word behind the newest. There is room for it.
+    pub fn push(mut self, word: u32) -> Ring
+        requires { ⌜ InRange (self .head) (self .count) (self .capacity) × (length (stored self) < self .capacity) ⌝ }
+        ensures { λ r. ⌜ Pushed self word r ⌝ }
+    {
+        let count = self.count;
+        let at = place_further(self.head, count);
+        self.words[at] = word;
+        self.count = count + 1;
+        self
+    }
+
+    // Takes the oldest word out. There is one.
+    pub fn pop(mut self) -> Taken
+        requires { ⌜ InRange (self .head) (self .count) (self .capacity) × (0 < length (stored self)) ⌝ }
+        ensures { λ r. ⌜ Popped self (r .word) (r .ring) ⌝ }
+    {
+        let head = self.head;
+        let at = head as usize;
+        let word = self.words[at];
+        self.head = next_place(head);
+        self.count = self.count - 1;
+        Taken { word, ring: self }
+    }
+
+    // Drops the oldest word and stores another behind the newest. There is one to drop.
+    pub fn drop_oldest_and_push(self, word: u32) -> Ring
+        requires { ⌜ InRange (self .head) (self .count) (self .capacity) × (0 < length (stored self)) ⌝ }
+        ensures { λ r. ⌜ Replaced self word r ⌝ }
+    {
+        let taken = self.pop();
+        taken.ring.push(word)
+    }
+}
