@@ -17,7 +17,6 @@ pub in-range : {n : ℕ} {s : List ℕ} {cell : ℕ} {l : List ℕ} {x : ℕ} �
 in-range (goes-on e lo hi c) (here q) = omega arith
 in-range (goes-on e lo hi c) (there i) = in-range c i
 
-
 -- A cell has one chain.
 pub same-chain : {n : ℕ} {s : List ℕ} {cell : ℕ} {l k : List ℕ} → Chain n s cell l → Chain n s cell k → l ≡ k
 same-chain (ends e) (ends f) = refl
@@ -90,6 +89,14 @@ pub data Once : List ℕ → Type 0 where
 pub chain-once : {n : ℕ} {s : List ℕ} {cell : ℕ} {l : List ℕ} → Chain n s cell l → Once l
 chain-once (ends e) = nothing
 chain-once (goes-on e lo hi c) = once (no-loop c) (chain-once c)
+
+-- A number that is taken out is gone.
+pub once-removed : {l : List ℕ} (i : ℕ) → Once l → i < length l → In (getD l i 0) (remove-at i l) → ⊥
+unfolding remove-at
+once-removed i nothing h j = omega arith
+once-removed zero (once f o) h j = f j
+once-removed (suc i) (once {l = l} f o) h (here e) = f (Memᴰ·cast (sym e) (in-at 0 l i (le-of-suc-le-suc h)))
+once-removed (suc i) (once f o) h (there j) = once-removed i o (le-of-suc-le-suc h) j
 
 -- What is left of a list without one number.
 record Rest (v : ℕ) (l : List ℕ) : Type 0 where

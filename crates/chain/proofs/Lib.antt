@@ -1,7 +1,9 @@
 pub mod Chain
 pub mod Table
+pub mod New
 pub mod Walks
 pub mod Standing
 pub mod Changes
 pub mod Search
 pub mod Marks
+pub mod Laws

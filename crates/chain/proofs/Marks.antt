@@ -10,6 +10,7 @@ use lib.ListN.{length, getD, set, length-set, replicate}
 use lib.Seq.{getD-set-same, getD-set-other}
 use Rattle.lists.specs.Tests.{Is, holds, fails}
 use Rattle.lists.proofs.Members.{is-one-of}
+use Rattle.lists.proofs.Places.{all-same}
 use Rattle.chain.specs.Table.{cells, key-cells, follow, lists, chain-of, Chain, ends, goes-on, Sound}
 use Rattle.chain.specs.Walks.{Marking, Unmarked, mark-all, Marked, Marks, MarkedBelow}
 use Rattle.chain.specs.Changes.{Testable, Tested}
@@ -96,17 +97,12 @@ module _ {n cell v left : ℕ} {s marks : List ℕ} (w : Marking n cell v s mark
             h (follow n s next) (g .chain) (omega arith) (λ x i. further (g .chain) x i ∙ u x (rw (g .split) (there i)))
 
 -- No chain is tested yet, and nothing is marked.
-zeros : (count x : ℕ) → getD {A = ℕ} (replicate count 0) x 0 ≡ 0
-zeros zero x = refl
-zeros (suc count) zero = refl
-zeros (suc count) (suc x) = zeros count x
-
 pub marked-below-none : (n : ℕ) {s marks : List ℕ} → marks ≡ replicate key-cells 0 → MarkedBelow n 1 s marks
 marked-below-none n {marks = marks} e = record {
   size = rw e;
   chain = λ j lo hi. absurd (omega arith);
   marked = λ lo hi i. absurd (omega arith);
-  stands = λ {j} {x} lo q. absurd (let z : getD marks x 0 ≡ 0 = rw e (zeros key-cells x) in omega arith);
+  stands = λ {j} {x} lo q. absurd (let z : getD marks x 0 ≡ 0 = rw e (all-same 0 key-cells x) in omega arith);
 }
 
 -- One chain more.

@@ -6,29 +6,24 @@ use Prim.Native.Nat.{ℕ, zero, suc, _+_, _<_, _≤_}
 use native.Mathlib.Omega.{arith}
 use native.Mathlib.Decide.{ℕ-discrete}
 use native.Mathlib.Nat.{le-of-suc-le-suc}
-use lib.ListN.{length, getD, set, length-set}
+use lib.ListN.{length, getD, set, length-set, length-map}
 use lib.Seq.{getD-set-same, getD-set-other, ext-getD}
 use Rattle.lists.specs.Lists.{ascending, insert-at, remove-at}
+use Rattle.lists.proofs.Ascending.{length-ascending}
 use Rattle.lists.proofs.Members.{in-at, in-insert-cases, in-remove-old}
 use Rattle.chain.specs.Table.{cells, follow, lists, Chain, ends, Holds}
 use Rattle.chain.proofs.Chain.{in-range, same-cells, two-stores, cell-at, insert-chain, remove-chain, reads}
 
 -- The lists that are read, of any cells.
-module _ (f : ℕ → List ℕ) where
-  length-entries : (first count : ℕ) → length (map f (ascending first count)) ≡ count
-  unfolding ascending
-  length-entries first zero = refl
-  length-entries first (suc count) = ap suc (length-entries (suc first) count)
-
-  entry-at : (first count k : ℕ) → k < count → getD (map f (ascending first count)) k [] ≡ f (first + k)
-  unfolding ascending
-  entry-at first zero k h = absurd (omega arith)
-  entry-at first (suc count) zero h = let z : first + 0 ≡ first = omega arith in rw z
-  entry-at first (suc count) (suc k) h = let z : first + suc k ≡ suc first + k = omega arith in rw z (entry-at (suc first) count k (le-of-suc-le-suc h))
+entry-at : (f : ℕ → List ℕ) (first count k : ℕ) → k < count → getD (map f (ascending first count)) k [] ≡ f (first + k)
+unfolding ascending
+entry-at f first zero k h = absurd (omega arith)
+entry-at f first (suc count) zero h = let z : first + 0 ≡ first = omega arith in rw z
+entry-at f first (suc count) (suc k) h = let z : first + suc k ≡ suc first + k = omega arith in rw z (entry-at f (suc first) count k (le-of-suc-le-suc h))
 
 pub length-lists : (n c : ℕ) (s : List ℕ) → length (lists n c s) ≡ suc c
 unfolding lists
-length-lists n c s = ap suc (length-entries (λ cell. follow n s cell) (suc n) c)
+length-lists n c s = ap suc (rw (length-map, length-ascending))
 
 pub list-at : (n c : ℕ) (s : List ℕ) (k : ℕ) → 0 < k → k ≤ c → getD (lists n c s) k [] ≡ follow n s (n + k)
 unfolding lists

@@ -2,11 +2,17 @@
 use mathlib.Core.Path.{_≡_}
 use mathlib.Core.Bool.{Bool, true}
 use mathlib.Core.List.{List, []}
-use Prim.Native.Nat.{ℕ, _+_, _<_, _≤_}
-use lib.ListN.{length, getD, set}
+use Prim.Native.Nat.{ℕ, suc, _+_, _<_, _≤_}
+use lib.ListN.{length, getD, set, replicate}
 use Rattle.lists.specs.Lists.{insert-at, remove-at, ahead, passed}
 use Rattle.lists.specs.Tests.{Is}
 use Rattle.chain.specs.Table.{cells, key-cells, lists, Sound, chain-of, keys-of}
+
+-- A new table is sound, whatever its size, and all its chains are empty.
+pub record New (link key : List ℕ) : Type 0 where
+  pub sound : (numbers chains : ℕ) → numbers < key-cells → numbers + chains < cells → Sound numbers chains link
+  pub lists-are : (numbers chains : ℕ) → numbers < key-cells → numbers + chains < cells → lists numbers chains link ≡ replicate (suc chains) []
+  pub keys-are : length key ≡ key-cells
 
 -- The table is sound and has this chain.
 pub record HasChain (numbers chains k : ℕ) (s : List ℕ) : Type 0 where

@@ -10,7 +10,7 @@ ghost use Rattle.lists.specs.Lists.{InOrder};
 ghost use Rattle.lists.specs.Tests.{Is};
 ghost use Rattle.chain.specs.Table.{key-cells, follow, lists, chain-of, keys-of, Sound};
 ghost use Rattle.chain.specs.Walks.{Walk, Passes, Sought, Found, Marking, Marks};
-ghost use Rattle.chain.specs.Changes.{HasChain, Changed, Insertable, Inserted, Popped, Removed, Testable, Tested};
+ghost use Rattle.chain.specs.Changes.{New, HasChain, Changed, Insertable, Inserted, Popped, Removed, Testable, Tested};
 
 pub const CELLS: usize = 81;
 
@@ -20,6 +20,18 @@ pub const KEY_CELLS: usize = 65;
 pub struct Chains {
     pub link: [u8; CELLS],
     pub key: [u8; KEY_CELLS],
+}
+
+impl Chains {
+    // A table whose chains are all empty.
+    pub fn new() -> Chains
+        ensures { λ r. ⌜ New (r .link) (r .key) ⌝ }
+    {
+        Chains {
+            link: [0; CELLS],
+            key: [0; KEY_CELLS],
+        }
+    }
 }
 
 // A cell of a chain, and how many numbers stand ahead of what comes behind it.

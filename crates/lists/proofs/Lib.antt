@@ -1,5 +1,6 @@
 pub mod Each
 pub mod Positions
+pub mod Ascending
 pub mod Places
 pub mod Tests
 pub mod Members

@@ -7,7 +7,7 @@ use Prim.Native.Nat.{ℕ, zero, suc, _≤_, _<_}
 use native.Mathlib.Nat.{le-of-suc-le-suc, not-suc-le-zero}
 use native.Mathlib.Omega.{arith}
 use lib.Dec.{T, leb, eqb, leb→le, nleb→lt, eqb→eq}
-use lib.ListN.{length, getD, take}
+use lib.ListN.{length, getD, take, replicate}
 use borrow.Author.Tests.{eqb-false}
 use Rattle.lists.specs.Lists.{Each, none, both, insert-at, remove-at, ahead, passed}
 
@@ -60,3 +60,9 @@ ahead-in n (x ∷ xs) m = go (eqb x n) refl (List·Memᴰ·cases-cons m) (ahead-
     go true e o h = omega arith
     go false e (inl q) h = absurd (eqb-false x n e (sym q))
     go false e (inr i) h = let r = h i in omega arith
+
+-- A list of one element, many times over, with that element beyond its end.
+pub all-same : {X : Type 0} (d : X) (count k : ℕ) → getD (replicate count d) k d ≡ d
+all-same d zero k = refl
+all-same d (suc count) zero = refl
+all-same d (suc count) (suc k) = all-same d count k

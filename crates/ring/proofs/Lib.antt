@@ -1,4 +1,3 @@
 pub mod Places
-pub mod Ascending
 pub mod Words
 pub mod Stored

@@ -8,9 +8,9 @@ use native.Mathlib.Numerals.{one-add}
 use native.Mathlib.Omega.{arith}
 use lib.ListN.{length, length-map}
 use Rattle.lists.specs.Lists.{ascending}
+use Rattle.lists.proofs.Ascending.{length-ascending, ascending-last, map-ascending}
 use Rattle.ring.specs.Ring.{further, words-from}
 use Rattle.ring.proofs.Places.{no-further, one-then-further, different-places}
-use Rattle.ring.proofs.Ascending.{length-ascending, ascending-last, map-ascending}
 
 -- As many words as places.
 pub length-words : (word-at : ℕ → ℕ) (size head count : ℕ) → length (words-from word-at size head count) ≡ count

@@ -48,14 +48,14 @@ module _ (t : ℕ) where
   returns-3 c = order-high (c .before .before .before .before .before .before .pre .1 .0) (sym (c .before .before .before .before .wide .ensures)) _ _ _ (c .before .before .before .if1 .left) (c .if3 .taken)
 
   in-order-from-requires : lts.Need-in-order-from-requires (callees t) (at t) own.Post
-  in-order-from-requires c κs = 
+  in-order-from-requires c κs =
       let w = c .before .before .before .before .before .before .pre .1 .0 in
       let e = sym (c .before .before .before .before .wide .ensures) in
       let f = c .before .before .before .if1 .left in
       (rw (← (c .before .before .before .before .before .before .pre .0)) (shorter w e f), (walk-on w e f, c .before .before .before .before .before .before .pre .1 .1))
 
   returns-4 : lts.Need-returns-4 (callees t) (at t) own.Post
-  returns-4 c = 
+  returns-4 c =
       order-on (c .before .before .before .before .before .before .before .pre .1 .0) (sym (c .before .before .before .before .before .wide .ensures)) _ _ _ (c .before .before .before .before .if1 .left) (c .before .before .if2 .left) (c .before .if3 .left) (c .in-order-from .ensures)
 
 pub +in-order-from-spec : {M : Type 1} → statement M

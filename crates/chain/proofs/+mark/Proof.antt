@@ -43,7 +43,7 @@ module _ (t : ℕ) where
   returns-3 c = mark-beyond (c .before .before .before .before .before .pre .1) (sym (c .before .before .before .wide .ensures)) (c .before .before .if1 .left) (c .if3 .taken)
 
   element-copy-out-if4 : lts.Need-element-copy-out-if4 (callees t) (at t) own.Post
-  element-copy-out-if4 c = 
+  element-copy-out-if4 c =
       let h = c .before .before .before .before .before .pre .1 .keys-fit in
       let b = c .if3 .left in
       omega arith
@@ -52,7 +52,7 @@ module _ (t : ℕ) where
   returns-4 c = mark-met (c .before .before .before .before .before .before .before .pre .1) (sym (c .before .before .before .before .before .wide .ensures)) (c .before .before .before .before .if1 .left) (c .if4 .taken)
 
   element-write-marks : lts.Need-element-write-marks (callees t) (at t) own.Post
-  element-write-marks c = 
+  element-write-marks c =
       let h = c .before .before .before .before .before .before .before .pre .1 .keys-fit in
       let b = c .before .before .if3 .left in
       omega arith
@@ -61,13 +61,13 @@ module _ (t : ℕ) where
   sub-mark c = let b = c .before .before .before .before .if2 .left in omega arith
 
   mark-requires : lts.Need-mark-requires (callees t) (at t) own.Post
-  mark-requires c κs = 
+  mark-requires c κs =
       let b = c .before .before .before .before .if2 .left in
       let m = c .before .before .before .before .before .before .before .before .pre .0 in
       (omega arith, marking-on (c .before .before .before .before .before .before .before .before .pre .1) (c .before .before .before .if3 .left))
 
   returns-5 : lts.Need-returns-5 (callees t) (at t) own.Post
-  returns-5 c = 
+  returns-5 c =
       mark-on (c .before .before .before .before .before .before .before .before .before .pre .1) (sym (c .before .before .before .before .before .before .before .wide .ensures)) (c .before .before .before .before .before .before .if1 .left) (c .before .before .before .before .if3 .left) (c .before .before .if4 .left)
       (let b = c .before .before .before .before .before .if2 .left in omega arith) (c .mark .ensures)
 

@@ -19,7 +19,7 @@ ascending-last first zero = rw add-zero
 ascending-last first (suc n) = cc (ascending-last (suc first) n, suc-add first n, add-suc first n)
 
 -- Two functions that agree number by number make the same list, from whichever numbers they start.
-pub map-ascending : (f g : ℕ → ℕ) (first second n : ℕ) → ((i : ℕ) → i < n → f (first + i) ≡ g (second + i))
+pub map-ascending : {X : Type 0} (f g : ℕ → X) (first second n : ℕ) → ((i : ℕ) → i < n → f (first + i) ≡ g (second + i))
     → map f (ascending first n) ≡ map g (ascending second n)
 unfolding ascending
 map-ascending f g first second zero h = refl
