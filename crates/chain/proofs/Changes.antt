@@ -42,11 +42,11 @@ module _ {n c k : ℕ} {s : List ℕ} (a : HasChain n c k s) where
     pub popped-cell : x < cells
     popped-cell = let h = leads chain-is e f .in-table in let g = a .sound .keys-fit in omega arith
 
-    pub popped : Popped n c k s (set s (n + k) (getD s x 0)) x
-    popped =
+    pub popped : {y : ℕ} → y ≡ x → Popped n c k s (set s (n + k) (getD s y 0)) x
+    popped w =
         let q = leads chain-is e f .split in
         let y : x ≡ getD (getD (lists n c s) k []) 0 0 = rw q in
-        record { first-is = y; changed = changed (rw y (remove-holds (a .sound) (a .low) (a .high) 0 (let z = ap length q in omega arith))) }
+        record { first-is = y; changed = changed (rw (w, y) (remove-holds (a .sound) (a .low) (a .high) 0 (let z = ap length q in omega arith))) }
 
   -- There is none.
   pub popped-none : {x : ℕ} → getD s (n + k) 0 ≡ x → x ≡ 0 → Popped n c k s s x
@@ -77,24 +77,24 @@ module _ {n c k : ℕ} {s : List ℕ} (a : HasChain n c k s) where
     pub removed-cell : x < cells
     removed-cell = let r = member-range (a .sound) k there in let h = a .sound .keys-fit in omega arith
 
-    pub removed : {at place : ℕ} → Found n (n + k) x s at place → Removed n c k x s (set s at (getD s x 0)) place
-    removed {at} {place} r =
+    pub removed : {at place y : ℕ} → Found n (n + k) x s at place → y ≡ x → Removed n c k x s (set s at (getD s y 0)) place
+    removed {at} {place} r w =
         let l : List ℕ = getD (lists n c s) k [] in
         let p : place ≡ ahead x l = rw list-is at (r .place-is) in
         let b : place < length l = let h = ahead-in x l there in omega arith in
         let y : getD l place 0 ≡ x = rw p (at-ahead x l (ahead-in x l there)) in
-        record { place-is = p; changed = changed (rw (reached-cell (r .reached), ← y) (remove-holds (a .sound) (a .low) (a .high) place b)) }
+        record { place-is = p; changed = changed (rw (w, reached-cell (r .reached), ← y) (remove-holds (a .sound) (a .low) (a .high) place b)) }
 
 module _ {n c k x : ℕ} {s key : List ℕ} (a : Insertable n c k x s key) where
   pub inserted-cell : x < cells
   inserted-cell = let h = a .in-table in let g = a .has .sound .keys-fit in omega arith
 
-  pub inserted : {limit at place : ℕ} → Sought n (n + k) limit s key at place → Inserted n c k x limit s key (set (set s x (getD s at 0)) at x) place
-  inserted {limit} {at} {place} r =
+  pub inserted : {limit at place y : ℕ} → Sought n (n + k) limit s key at place → y ≡ x → Inserted n c k x limit s key (set (set s y (getD s at 0)) at x) place
+  inserted {limit} {at} {place} r w =
       record {
         place-is = rw (list-is (a .has)) at (r .place-is);
         at-the-end = λ z. rw (list-is (a .has)) at (r .at-the-end z);
-        changed = changed (rw (reached-cell (a .has) (r .reached))
+        changed = changed (rw (w, reached-cell (a .has) (r .reached))
             (insert-holds (a .has .sound) (a .has .low) (a .has .high) place x (reached-place (a .has) (r .reached)) (a .positive) (a .in-table)
             (stands-free (a .has .sound) x (a .free))));
       }

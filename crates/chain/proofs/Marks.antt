@@ -142,7 +142,7 @@ marked-below-more {n} {k} {s} {marks} {marks'} pos fit b a = record {
 
 -- All chains are tested.
 pub tested-true : {n c : ℕ} {s marks : List ℕ} → Testable n c s → MarkedBelow n (c + 1) s marks → Tested n c s marks true
-tested-true {n} {c} {s} {marks} t b = record { exact = holds sound'; standing-is = λ _ x. stand x (getD marks x 0) refl }
+tested-true {n} {c} {s} {marks} t b = record { size = b .size; exact = holds sound'; standing-is = λ _ x. stand x (getD marks x 0) refl }
   where
     range : (j : ℕ) {x : ℕ} → In x (getD (lists n c s) j []) → (0 < j) × (j ≤ c)
     range = entry-range c (lists n c s) (length-lists n c s) (list-none n c s)
@@ -170,7 +170,7 @@ tested-true {n} {c} {s} {marks} t b = record { exact = holds sound'; standing-is
 
 -- A chain fails the test.
 pub tested-false : {n c k : ℕ} {s marks marks' : List ℕ} → 0 < k → k ≤ c → MarkedBelow n k s marks → Marks n (n + k) k n s marks marks' false → Tested n c s marks' false
-tested-false {n} {c} {k} {s} {marks} lo hi b a = record { exact = fails not-sound; standing-is = λ e. never (sym e) }
+tested-false {n} {c} {k} {s} {marks} lo hi b a = record { size = a .size ∙ b .size; exact = fails not-sound; standing-is = λ e. never (sym e) }
   where
     unmarked : Sound n c s → (x : ℕ) → In x (getD (lists n c s) k []) → (v : ℕ) → getD marks x 0 ≡ v → v ≡ 0
     unmarked H x i zero e = refl

@@ -55,7 +55,8 @@ pub record Testable (numbers chains : ℕ) (s : List ℕ) : Type 0 where
   pub keys-fit : numbers < key-cells
   pub heads-fit : numbers + chains < cells
 
--- The answer says whether the table is sound. If it is, `standing` has for each number the chain that it stands in, 0 for none.
+-- The answer says whether the table is sound. If it is, `standing` has for each number the chain that it stands in, 0 for none. If it isn't, what `standing` holds is free.
 pub record Tested (numbers chains : ℕ) (s standing : List ℕ) (answer : Bool) : Type 0 where
+  pub size : length standing ≡ key-cells
   pub exact : Is (Sound numbers chains s) answer
   pub standing-is : answer ≡ true → (x : ℕ) → getD standing x 0 ≡ chain-of x (lists numbers chains s)

@@ -143,11 +143,11 @@ pub fn remove(
     requires { ⌜ HasChain numbers chains chain (now link) × (chain-of number (lists numbers chains (now link)) ≡ chain) ⌝ }
     ensures { λ r. ⌜ Removed numbers chains chain number (now (link .entry)) (now (link .exit)) r ⌝ }
 {
-    let spot = find(link, numbers, numbers + chain, number);
-    let at = spot.at;
+    let found = find(link, numbers, numbers + chain, number);
+    let at = found.at;
     let x = wide(number);
     link[at] = link[x];
-    spot.place
+    found.place
 }
 
 // Takes all numbers out of a chain.
@@ -155,7 +155,8 @@ pub fn clear(link: &mut [u8; CELLS], numbers: usize, chains: usize, chain: usize
     requires { ⌜ HasChain numbers chains chain (now link) ⌝ }
     ensures { λ _. ⌜ Changed numbers chains chain (now (link .entry)) (now (link .exit)) [] ⌝ }
 {
-    link[numbers + chain] = 0;
+    let head = numbers + chain;
+    link[head] = 0;
 }
 
 // The first number of a chain; 0 where there is none.
@@ -173,8 +174,8 @@ pub fn chain_of(link: &[u8; CELLS], numbers: usize, chains: usize, number: u8) -
 {
     let mut chain: usize = 1;
     while chain <= chains {
-        let spot = find(link, numbers, numbers + chain, number);
-        let at = spot.at;
+        let stop = find(link, numbers, numbers + chain, number);
+        let at = stop.at;
         if link[at] == number {
             return chain;
         }

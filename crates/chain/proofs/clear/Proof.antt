@@ -4,8 +4,8 @@ use Rattle.chain.proofs.Changes.{head-fits, cleared}
 use Rattle.chain.proofs.clear.Statement.{statement}
 use Rattle.chain.proofs.clear.Tie as tie
 
-add-link : tie.Need-add-link
-add-link c = let h = head-fits (c .pre) in omega arith
+add-head : tie.Need-add-head
+add-head c = let h = head-fits (c .pre) in omega arith
 
 element-write-link : tie.Need-element-write-link
 element-write-link c = let h = head-fits (c .pre) in omega arith
@@ -14,4 +14,4 @@ returns : tie.Need-returns
 returns c = cleared (c .pre)
 
 pub clear-spec : {M : Type 1} → statement M
-clear-spec = tie.close (tie.spec add-link element-write-link returns)
+clear-spec = tie.close (tie.spec add-head element-write-link returns)

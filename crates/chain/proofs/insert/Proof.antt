@@ -27,7 +27,7 @@ element-write-link-2 : tie.Need-element-write-link-2
 element-write-link-2 c = let h = reached-fits (c .before .before .before .before .pre .has) (c .before .before .seek .ensures .reached) in omega arith
 
 returns : tie.Need-returns
-returns c = rw (c .before .wide .ensures) (inserted (c .before .before .before .before .pre) (c .before .before .seek .ensures))
+returns c = inserted (c .before .before .before .before .pre) (c .before .before .seek .ensures) (c .before .wide .ensures)
 
 pub insert-spec : {M : Type 1} → statement M
 insert-spec =

@@ -25,7 +25,7 @@ element-write-link : tie.Need-element-write-link
 element-write-link c = let h = head-fits (c .before .before .before .before .pre) in omega arith
 
 returns : tie.Need-returns
-returns c = rw (c .before .wide .ensures) (popped (c .before .before .before .before .pre) refl (c .before .before .if1 .taken))
+returns c = popped (c .before .before .before .before .pre) refl (c .before .before .if1 .taken) (c .before .wide .ensures)
 
 returns-2 : tie.Need-returns-2
 returns-2 c = popped-none (c .before .before .pre) refl (c .if1 .left)

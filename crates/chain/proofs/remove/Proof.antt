@@ -24,7 +24,7 @@ element-write-link : tie.Need-element-write-link
 element-write-link c = let h = reached-fits (c .before .before .before .before .pre .0) (c .before .before .find .ensures .reached) in omega arith
 
 returns : tie.Need-returns
-returns c = rw (c .before .wide .ensures) (removed (c .before .before .before .before .pre .0) (c .before .before .before .before .pre .1) (c .before .before .find .ensures))
+returns c = removed (c .before .before .before .before .pre .0) (c .before .before .before .before .pre .1) (c .before .before .find .ensures) (c .before .wide .ensures)
 
 pub remove-spec : {M : Type 1} → statement M
 remove-spec =
