@@ -1,16 +1,16 @@
 -- What the stores of each function do to the lists: by the laws of one changed chain, read back as the lists of the new cells.
-use mathlib.Core.Path.{_≡_, refl, sym, ap, _∙_}
-use mathlib.Core.List.{List, [], _∷_, List·Memᴰ as In}
+use mathlib.Core.Path.{_≡_, sym, ap, _∙_}
+use mathlib.Core.List.{List, [], List·Memᴰ as In}
 use Prim.Native.Nat.{ℕ, _+_, _<_, _≤_}
 use native.Mathlib.Omega.{arith}
-use lib.ListN.{length, getD, set, length-set}
+use lib.ListN.{length, getD, set}
 use lib.Seq.{set-getD}
-use Rattle.lists.specs.Lists.{insert-at, remove-at, ahead}
+use Rattle.lists.specs.Lists.{remove-at, ahead}
 use Rattle.lists.proofs.Places.{at-ahead, ahead-in}
-use Rattle.chain.specs.Table.{cells, follow, lists, chain-of, Chain, Holds, Sound}
+use Rattle.chain.specs.Table.{cells, follow, lists, chain-of, Chain, Holds}
 use Rattle.chain.specs.Walks.{Walk, Reached, Sought, Found}
 use Rattle.chain.specs.Changes.{HasChain, Changed, Insertable, Inserted, Popped, Removed}
-use Rattle.chain.proofs.Chain.{cell-at, reads, leads, at-end, holds-first}
+use Rattle.chain.proofs.Chain.{cell-at, leads, at-end, holds-first}
 use Rattle.chain.proofs.Table.{lists-are, list-at, member-range, cell-fits, insert-holds, remove-holds, clear-holds}
 use Rattle.chain.proofs.Standing.{stands-there, stands-free}
 

@@ -11,7 +11,7 @@ use lib.Seq.{getD-set-same, getD-set-other}
 use Rattle.lists.specs.Tests.{Is, holds, fails}
 use Rattle.lists.proofs.Members.{is-one-of}
 use Rattle.lists.proofs.Places.{all-same}
-use Rattle.chain.specs.Table.{cells, key-cells, follow, lists, chain-of, Chain, ends, goes-on, Sound}
+use Rattle.chain.specs.Table.{key-cells, follow, lists, chain-of, Chain, ends, goes-on, Sound}
 use Rattle.chain.specs.Walks.{Marking, Unmarked, mark-all, Marked, Marks, MarkedBelow}
 use Rattle.chain.specs.Changes.{Testable, Tested}
 use Rattle.chain.proofs.Chain.{in-range, no-loop, short, reads, leads}

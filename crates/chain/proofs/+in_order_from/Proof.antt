@@ -42,21 +42,29 @@ module _ (t : ℕ) where
   element-copy-out-k c = let h = has-key (c .before .before .before .pre .1 .0) (sym (c .before .wide .ensures)) (c .if1 .left) in omega arith
 
   returns-2 : lts.Need-returns-2 (callees t) (at t) own.Post
-  returns-2 c = order-low (c .before .before .before .before .before .pre .1 .0) (sym (c .before .before .before .wide .ensures)) _ _ _ (c .before .before .if1 .left) (c .if2 .taken)
+  returns-2 c =
+      let read = c .before .before in
+      order-low (read .before .before .before .pre .1 .0) (sym (read .before .wide .ensures)) _ _ _ (read .if1 .left) (c .if2 .taken)
 
   returns-3 : lts.Need-returns-3 (callees t) (at t) own.Post
-  returns-3 c = order-high (c .before .before .before .before .before .before .pre .1 .0) (sym (c .before .before .before .before .wide .ensures)) _ _ _ (c .before .before .before .if1 .left) (c .if3 .taken)
+  returns-3 c =
+      let read = c .before .before .before in
+      order-high (read .before .before .before .pre .1 .0) (sym (read .before .wide .ensures)) _ _ _ (read .if1 .left) (c .if3 .taken)
 
   in-order-from-requires : lts.Need-in-order-from-requires (callees t) (at t) own.Post
   in-order-from-requires c κs =
-      let w = c .before .before .before .before .before .before .pre .1 .0 in
-      let e = sym (c .before .before .before .before .wide .ensures) in
-      let f = c .before .before .before .if1 .left in
-      (rw (← (c .before .before .before .before .before .before .pre .0)) (shorter w e f), (walk-on w e f, c .before .before .before .before .before .before .pre .1 .1))
+      let read = c .before .before .before in
+      let start = read .before .before .before in
+      let w = start .pre .1 .0 in
+      let e = sym (read .before .wide .ensures) in
+      (rw (← (start .pre .0)) (shorter w e (read .if1 .left)), (walk-on w e (read .if1 .left), start .pre .1 .1))
 
   returns-4 : lts.Need-returns-4 (callees t) (at t) own.Post
   returns-4 c =
-      order-on (c .before .before .before .before .before .before .before .pre .1 .0) (sym (c .before .before .before .before .before .wide .ensures)) _ _ _ (c .before .before .before .before .if1 .left) (c .before .before .if2 .left) (c .before .if3 .left) (c .in-order-from .ensures)
+      let low = c .before .before in
+      let read = low .before .before in
+      order-on (read .before .before .before .pre .1 .0) (sym (read .before .wide .ensures)) _ _ _
+      (read .if1 .left) (low .if2 .left) (c .before .if3 .left) (c .in-order-from .ensures)
 
 pub +in-order-from-spec : {M : Type 1} → statement M
 +in-order-from-spec = close measure λ t. lts.spec (callees t) (at t) own.Post

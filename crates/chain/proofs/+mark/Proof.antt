@@ -37,10 +37,14 @@ module _ (t : ℕ) where
   returns c = mark-end (c .before .before .before .pre .1) (sym (c .before .wide .ensures)) (c .if1 .taken)
 
   returns-2 : lts.Need-returns-2 (callees t) (at t) own.Post
-  returns-2 c = mark-long (c .before .before .before .before .pre .1) (sym (c .before .before .wide .ensures)) (c .before .if1 .left) (c .if2 .taken)
+  returns-2 c =
+      let read = c .before in
+      mark-long (read .before .before .before .pre .1) (sym (read .before .wide .ensures)) (read .if1 .left) (c .if2 .taken)
 
   returns-3 : lts.Need-returns-3 (callees t) (at t) own.Post
-  returns-3 c = mark-beyond (c .before .before .before .before .before .pre .1) (sym (c .before .before .before .wide .ensures)) (c .before .before .if1 .left) (c .if3 .taken)
+  returns-3 c =
+      let read = c .before .before in
+      mark-beyond (read .before .before .before .pre .1) (sym (read .before .wide .ensures)) (read .if1 .left) (c .if3 .taken)
 
   element-copy-out-if4 : lts.Need-element-copy-out-if4 (callees t) (at t) own.Post
   element-copy-out-if4 c =
@@ -49,7 +53,9 @@ module _ (t : ℕ) where
       omega arith
 
   returns-4 : lts.Need-returns-4 (callees t) (at t) own.Post
-  returns-4 c = mark-met (c .before .before .before .before .before .before .before .pre .1) (sym (c .before .before .before .before .before .wide .ensures)) (c .before .before .before .before .if1 .left) (c .if4 .taken)
+  returns-4 c =
+      let read = c .before .before .before .before in
+      mark-met (read .before .before .before .pre .1) (sym (read .before .wide .ensures)) (read .if1 .left) (c .if4 .taken)
 
   element-write-marks : lts.Need-element-write-marks (callees t) (at t) own.Post
   element-write-marks c =
@@ -62,14 +68,21 @@ module _ (t : ℕ) where
 
   mark-requires : lts.Need-mark-requires (callees t) (at t) own.Post
   mark-requires c κs =
-      let b = c .before .before .before .before .if2 .left in
-      let m = c .before .before .before .before .before .before .before .before .pre .0 in
-      (omega arith, marking-on (c .before .before .before .before .before .before .before .before .pre .1) (c .before .before .before .if3 .left))
+      let within = c .before .before .before in
+      let counted = within .before in
+      let start = counted .before .before .before .before in
+      let b = counted .if2 .left in
+      let m = start .pre .0 in
+      (omega arith, marking-on (start .pre .1) (within .if3 .left))
 
   returns-5 : lts.Need-returns-5 (callees t) (at t) own.Post
   returns-5 c =
-      mark-on (c .before .before .before .before .before .before .before .before .before .pre .1) (sym (c .before .before .before .before .before .before .before .wide .ensures)) (c .before .before .before .before .before .before .if1 .left) (c .before .before .before .before .if3 .left) (c .before .before .if4 .left)
-      (let b = c .before .before .before .before .before .if2 .left in omega arith) (c .mark .ensures)
+      let unmarked = c .before .before in
+      let within = unmarked .before .before in
+      let counted = within .before in
+      let read = counted .before in
+      mark-on (read .before .before .before .pre .1) (sym (read .before .wide .ensures)) (read .if1 .left) (within .if3 .left) (unmarked .if4 .left)
+      (let b = counted .if2 .left in omega arith) (c .mark .ensures)
 
 pub +mark-spec : {M : Type 1} → statement M
 +mark-spec = close measure λ t. lts.spec (callees t) (at t) own.Post

@@ -24,11 +24,16 @@ find-requires c κs = walk-from-head (next-chain (c .before .before .pre .0) (c 
 
 element-copy-out-if1 : tie.Need-element-copy-out-if1 Inv-loop μ-loop
 element-copy-out-if1 c =
-    let h = reached-fits (next-chain (c .before .before .before .pre .0) (c .before .before .loop .inv) (c .before .loop-test .taken)) (c .find .ensures .reached) in
+    let test = c .before in
+    let h = reached-fits (next-chain (test .before .before .pre .0) (test .before .loop .inv) (test .loop-test .taken)) (c .find .ensures .reached) in
     omega arith
 
 returns : tie.Need-returns Inv-loop μ-loop
-returns c = sym (searched-here (next-chain (c .before .before .before .before .before .pre .0) (c .before .before .before .before .loop .inv) (c .before .before .before .loop-test .taken)) (c .before .before .find .ensures) (c .before .before .before .before .before .pre .1) (c .if1 .taken))
+returns c =
+    let found = c .before .before in
+    let test = found .before in
+    let start = test .before .before in
+    sym (searched-here (next-chain (start .pre .0) (test .before .loop .inv) (test .loop-test .taken)) (found .find .ensures) (start .pre .1) (c .if1 .taken))
 
 add-chain : tie.Need-add-chain Inv-loop μ-loop
 add-chain c =
@@ -41,8 +46,10 @@ loop-less c = let b = c .before .before .before .loop-test .taken in omega arith
 
 loop-again : tie.Need-loop-again Inv-loop μ-loop
 loop-again c =
-    let b = c .before .before .before .before .loop .inv in
-    not-below-more (next-chain (c .before .before .before .before .before .pre .0) b (c .before .before .before .loop-test .taken)) (c .before .before .find .ensures) (c .if1 .left) b
+    let found = c .before .before in
+    let test = found .before in
+    let b = test .before .loop .inv in
+    not-below-more (next-chain (test .before .before .pre .0) b (test .loop-test .taken)) (found .find .ensures) (c .if1 .left) b
 
 returns-2 : tie.Need-returns-2 Inv-loop μ-loop
 returns-2 c = sym (searched-all (c .before .before .pre .0) (c .before .loop .inv) (c .loop-test .left))

@@ -35,9 +35,10 @@ passes-requires c κs = search needs
 
 returns : tie.Need-returns Inv-loop μ-loop
 returns c =
+    let test = c .before .before .before in
     let f = not-true (c .before .passes .result) (c .if1 .taken) in
     let p = c .before .passes .ensures in
-    sought-stop (c .before .before .before .before .loop .inv) (c .before .before .before .loop-test .taken) (passes-no p f) (passes-some p f)
+    sought-stop (test .before .loop .inv) (test .loop-test .taken) (passes-no p f) (passes-some p f)
 
 add-place : tie.Need-add-place Inv-loop μ-loop
 add-place c =
@@ -55,12 +56,17 @@ wide-requires-2 : tie.Need-wide-requires-2 Inv-loop μ-loop
 wide-requires-2 c κs = search needs
 
 loop-less : tie.Need-loop-less Inv-loop μ-loop
-loop-less c = let k = c .before .before .before .before .before .before .loop .inv in shorter (k .reached .walk) (k .next-is) (c .before .before .before .before .before .loop-test .taken)
+loop-less c =
+    let test = c .before .before .before .before .before in
+    let k = test .before .loop .inv in
+    shorter (k .reached .walk) (k .next-is) (test .loop-test .taken)
 
 loop-again : tie.Need-loop-again Inv-loop μ-loop
 loop-again c =
-    let t = not-false (c .before .before .before .passes .result) (c .before .before .if1 .left) in
-    seeking-next (c .before .before .before .before .before .before .loop .inv) (c .before .before .before .before .before .loop-test .taken) (passes-yes (c .before .before .before .passes .ensures) t) (sym (c .wide2 .ensures))
+    let passed = c .before .before .before in
+    let test = passed .before .before in
+    let t = not-false (passed .passes .result) (c .before .before .if1 .left) in
+    seeking-next (test .before .loop .inv) (test .loop-test .taken) (passes-yes (passed .passes .ensures) t) (sym (c .wide2 .ensures))
 
 returns-2 : tie.Need-returns-2 Inv-loop μ-loop
 returns-2 c = sought-end (c .before .loop .inv) (c .loop-test .left)

@@ -1,6 +1,6 @@
 -- `sound` is exact. The invariant: the chains passed are chains, and the marks say which number stands in which of them. The chains left get fewer.
 use Prim.Native.Nat.{_+_, _-_, _<_, _≤_}
-use mathlib.Core.Path.{_≡_, _∙_}
+use mathlib.Core.Path.{_≡_}
 use native.Mathlib.Omega.{arith}
 use borrow.Author.Tests.{not-true, not-false}
 use Rattle.chain.specs.Walks.{MarkedBelow}
@@ -53,9 +53,12 @@ loop-less c = let b = c .before .before .before .loop-test .taken in omega arith
 
 loop-again : tie.Need-loop-again Inv-loop μ-loop
 loop-again c =
-    let i = c .before .before .before .before .loop .inv in
-    let b = c .before .before .before .loop-test .taken in
-    (omega arith, omega arith, marked-below-more (i .0) (c .before .before .before .before .before .pre .0 .keys-fit) (i .2) (rw (not-false (c .before .mark .result) (c .if1 .left)) at (c .before .mark .ensures)))
+    let marked = c .before in
+    let test = marked .before .before in
+    let i = test .before .loop .inv in
+    let b = test .loop-test .taken in
+    let m = rw (not-false (marked .mark .result) (c .if1 .left)) at (marked .mark .ensures) in
+    (omega arith, omega arith, marked-below-more (i .0) (test .before .before .pre .0 .keys-fit) (i .2) m)
 
 returns-2 : tie.Need-returns-2 Inv-loop μ-loop
 returns-2 c =
