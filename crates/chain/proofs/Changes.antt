@@ -26,10 +26,10 @@ module _ {n c k : ℕ} {s : List ℕ} (a : HasChain n c k s) where
   list-is = sym (list-at n c s k (a .low) (a .high))
 
   pub head-fits : n + k < cells
-  head-fits = let h = a .sound .heads-fit in let g = a .high in omega arith
+  head-fits = let h = a .sound .room .heads-fit in let g = a .high in omega arith
 
   pub walk-from-head : Walk n (n + k) s
-  walk-from-head = record { cells-are = a .sound .cells-are; keys-fit = a .sound .keys-fit; cell-fits = head-fits; chain = rw list-is chain-is }
+  walk-from-head = record { cells-are = a .sound .room .cells-are; keys-fit = a .sound .room .keys-fit; cell-fits = head-fits; chain = rw list-is chain-is }
 
   pub first-is : getD s (n + k) 0 ≡ getD (getD (lists n c s) k []) 0 0
   first-is = holds-first chain-is
@@ -40,7 +40,7 @@ module _ {n c k : ℕ} {s : List ℕ} (a : HasChain n c k s) where
   -- There is a first number.
   module _ {x : ℕ} (e : getD s (n + k) 0 ≡ x) (f : x ≡ 0 → ⊥) where
     pub popped-cell : x < cells
-    popped-cell = let h = leads chain-is e f .in-table in let g = a .sound .keys-fit in omega arith
+    popped-cell = let h = leads chain-is e f .in-table in let g = a .sound .room .keys-fit in omega arith
 
     pub popped : {y : ℕ} → y ≡ x → Popped n c k s (set s (n + k) (getD s y 0)) x
     popped w =
@@ -75,7 +75,7 @@ module _ {n c k : ℕ} {s : List ℕ} (a : HasChain n c k s) where
     there = stands-there x k (lists n c s) e (a .low)
 
     pub removed-cell : x < cells
-    removed-cell = let r = member-range (a .sound) k there in let h = a .sound .keys-fit in omega arith
+    removed-cell = let r = member-range (a .sound) k there in let h = a .sound .room .keys-fit in omega arith
 
     pub removed : {at place y : ℕ} → Found n (n + k) x s at place → y ≡ x → Removed n c k x s (set s at (getD s y 0)) place
     removed {at} {place} r w =
@@ -87,7 +87,7 @@ module _ {n c k : ℕ} {s : List ℕ} (a : HasChain n c k s) where
 
 module _ {n c k x : ℕ} {s key : List ℕ} (a : Insertable n c k x s key) where
   pub inserted-cell : x < cells
-  inserted-cell = let h = a .in-table in let g = a .has .sound .keys-fit in omega arith
+  inserted-cell = let h = a .in-table in let g = a .has .sound .room .keys-fit in omega arith
 
   pub inserted : {limit at place y : ℕ} → Sought n (n + k) limit s key at place → y ≡ x → Inserted n c k x limit s key (set (set s y (getD s at 0)) at x) place
   inserted {limit} {at} {place} r w =

@@ -1,7 +1,7 @@
 -- Laws for callers: what each promise says of where the numbers stand, of a newcomer behind all others, and of a chain in order of its keys. By the changed list alone.
 use mathlib.Core.Path.{_≡_, refl, ap, _∙_}
 use mathlib.Core.Bool.{Bool, cond}
-use mathlib.Core.List.{List, [], _∷_, _++_, List·Memᴰ·not-nil}
+use mathlib.Core.List.{List, [], _∷_, _++_, List·Memᴰ as In, List·Memᴰ·not-nil}
 use mathlib.Core.Logic.{⊎-elim}
 use Prim.Native.Nat.{ℕ, zero, suc, _<_, _≤_}
 use native.Mathlib.Omega.{arith}
@@ -15,10 +15,21 @@ use Rattle.lists.proofs.Places.{at-ahead, ahead-in}
 use Rattle.lists.proofs.Order.{insert-at-end, passed-all, in-order-insert, in-order-remove}
 use Rattle.chain.specs.Table.{lists, chain-of, keys-of}
 use Rattle.chain.specs.Changes.{HasChain, Changed, Insertable, Inserted, Popped, Removed}
-use Rattle.chain.proofs.Chain.{chain-once, once-removed}
+use Rattle.chain.proofs.Chain.{Once, chain-once, once-removed, short, in-range}
 use Rattle.chain.proofs.Table.{member-range}
 use Rattle.chain.proofs.Standing.{stands-in, stands-there, stands-nowhere, new-list, standing-new, standing-none, standing-same}
 use Rattle.chain.proofs.Changes.{chain-is}
+
+-- A chain has each number once, and only numbers of the table.
+module _ {n c k : ℕ} {s : List ℕ} (a : HasChain n c k s) where
+  pub list-once : Once (getD (lists n c s) k [])
+  list-once = chain-once (chain-is a)
+
+  pub list-short : length (getD (lists n c s) k []) ≤ n
+  list-short = short (chain-is a)
+
+  pub list-range : {x : ℕ} → In x (getD (lists n c s) k []) → (0 < x) × (x ≤ n)
+  list-range = in-range (chain-is a)
 
 -- A number put in stands in its chain, and all others where they stood.
 pub inserted-standing : {n c k x limit : ℕ} {s key s' : List ℕ} {place : ℕ} → Insertable n c k x s key → Inserted n c k x limit s key s' place
@@ -45,7 +56,7 @@ module _ {n c k : ℕ} {s s' : List ℕ} (a : HasChain n c k s) where
       l = getD (lists n c s) k []
 
       go : {b : Bool} → Is (y ≡ getD l i 0) b → chain-of y (lists n c s') ≡ cond b 0 (chain-of y (lists n c s))
-      go (holds e) = rw e (standing-none a d (in-at 0 l i h) (once-removed i (chain-once (chain-is a)) h))
+      go (holds e) = rw e (standing-none a d (in-at 0 l i h) (once-removed i (list-once a) h))
       go (fails f) = standing-same a d y (in-remove-old i l) (in-remove-other 0 i f)
 
   pub removed-standing : {x place : ℕ} → chain-of x (lists n c s) ≡ k → Removed n c k x s s' place

@@ -11,9 +11,9 @@ use lib.Seq.{getD-set-same, getD-set-other}
 use Rattle.lists.specs.Tests.{Is, holds, fails}
 use Rattle.lists.proofs.Members.{is-one-of}
 use Rattle.lists.proofs.Places.{all-same}
-use Rattle.chain.specs.Table.{key-cells, follow, lists, chain-of, Chain, ends, goes-on, Sound}
-use Rattle.chain.specs.Walks.{Marking, Unmarked, mark-all, Marked, Marks, MarkedBelow}
-use Rattle.chain.specs.Changes.{Testable, Tested}
+use Rattle.chain.specs.Table.{key-cells, follow, lists, chain-of, Chain, ends, goes-on, Room, Sound}
+use Rattle.chain.specs.Walks.{Marking, Unmarked, mark-all, Marked, Marks}
+use Rattle.chain.specs.Changes.{Tested}
 use Rattle.chain.proofs.Chain.{in-range, no-loop, short, reads, leads}
 use Rattle.chain.proofs.Table.{length-lists, list-at, list-none, entry-range}
 use Rattle.chain.proofs.Standing.{stands-in, stands-nowhere}
@@ -22,10 +22,6 @@ never : {P : Type 0} → _≡_ {A = Bool} true false → P
 never e = absurd (let z : _≡_ {A = ℕ} 0 1 = cc in omega arith)
 
 -- Marks of a list of numbers.
-length-mark-all : (marks l : List ℕ) (v : ℕ) → length (mark-all marks l v) ≡ length marks
-length-mark-all marks [] v = refl
-length-mark-all marks (x ∷ l) v = length-mark-all (set marks x v) l v ∙ length-set marks x v
-
 marked-not : (marks l : List ℕ) (v x : ℕ) → (In x l → ⊥) → getD (mark-all marks l v) x 0 ≡ getD marks x 0
 marked-not marks [] v x f = refl
 marked-not marks (y ∷ l) v x f = marked-not (set marks y v) l v x (λ i. f (there i)) ∙ getD-set-other marks y x v 0 (λ e. f (here e))
@@ -96,6 +92,13 @@ module _ {n cell v left : ℕ} {s marks : List ℕ} (w : Marking n cell v s mark
             let k = ap length (g .split) in
             h (follow n s next) (g .chain) (omega arith) (λ x i. further (g .chain) x i ∙ u x (rw (g .split) (there i)))
 
+-- The chains below k are chains, and the marks say which numbers stand in which of them.
+pub record MarkedBelow (numbers k : ℕ) (s marks : List ℕ) : Type 0 where
+  pub size : length marks ≡ key-cells
+  pub chain : (j : ℕ) → 0 < j → j < k → Chain numbers s (numbers + j) (follow numbers s (numbers + j))
+  pub marked : {j x : ℕ} → 0 < j → j < k → In x (follow numbers s (numbers + j)) → getD marks x 0 ≡ j
+  pub stands : {j x : ℕ} → 0 < j → getD marks x 0 ≡ j → (j < k) × In x (follow numbers s (numbers + j))
+
 -- No chain is tested yet, and nothing is marked.
 pub marked-below-none : (n : ℕ) {s marks : List ℕ} → marks ≡ replicate key-cells 0 → MarkedBelow n 1 s marks
 marked-below-none n {marks = marks} e = record {
@@ -141,7 +144,7 @@ marked-below-more {n} {k} {s} {marks} {marks'} pos fit b a = record {
     st j x lo q (fails f) = let r = b .stands lo (sym (outside x f) ∙ q) in (let y = r .0 in omega arith, r .1)
 
 -- All chains are tested.
-pub tested-true : {n c : ℕ} {s marks : List ℕ} → Testable n c s → MarkedBelow n (c + 1) s marks → Tested n c s marks true
+pub tested-true : {n c : ℕ} {s marks : List ℕ} → Room n c s → MarkedBelow n (c + 1) s marks → Tested n c s marks true
 tested-true {n} {c} {s} {marks} t b = record { size = b .size; exact = holds sound'; standing-is = λ _ x. stand x (getD marks x 0) refl }
   where
     range : (j : ℕ) {x : ℕ} → In x (getD (lists n c s) j []) → (0 < j) × (j ≤ c)
@@ -152,9 +155,7 @@ tested-true {n} {c} {s} {marks} t b = record { size = b .size; exact = holds sou
 
     sound' : Sound n c s
     sound' = record {
-      cells-are = t .cells-are;
-      keys-fit = t .keys-fit;
-      heads-fit = t .heads-fit;
+      room = t;
       count = length-lists n c s;
       none = list-none n c s;
       chain = λ k lo hi. rw (list-at n c s k lo hi) (b .chain k lo (omega arith));

@@ -86,9 +86,7 @@ module _ {n c : ℕ} {s : List ℕ} {L : List (List ℕ)} (H : Holds n c s L) wh
       → ((j x : ℕ) → (j ≡ k → ⊥) → In x l' → In x (getD L j []) → ⊥)
       → Holds n c s' (set L k l')
   put k s' l' lo hi size new keep apart' = record {
-    cells-are = size ∙ H .cells-are;
-    keys-fit = H .keys-fit;
-    heads-fit = H .heads-fit;
+    room = record { cells-are = size ∙ H .room .cells-are; keys-fit = H .room .keys-fit; heads-fit = H .room .heads-fit };
     count = length-set L k l' ∙ H .count;
     none = other 0 (omega arith) ∙ H .none;
     chain = λ j a b. at j a b (ℕ-discrete j k);
@@ -119,8 +117,8 @@ module _ {n c : ℕ} {s : List ℕ} {L : List (List ℕ)} (H : Holds n c s L) wh
   module _ {k : ℕ} (lo : 0 < k) (hi : k ≤ c) where
     pub cell-fits : (i : ℕ) → i ≤ length (getD L k []) → cell-at (n + k) (getD L k []) i < cells
     cell-fits i h =
-        let a = H .heads-fit in
-        let b = H .keys-fit in
+        let a = H .room .heads-fit in
+        let b = H .room .keys-fit in
         ⊎-elim (λ e. omega arith) (λ m. let r = member-range k m in omega arith) (cell-of k i h)
 
     pub insert-holds : (i t : ℕ) → i ≤ length (getD L k []) → 0 < t → t ≤ n → ((j : ℕ) → In t (getD L j []) → ⊥)
@@ -128,9 +126,9 @@ module _ {n c : ℕ} {s : List ℕ} {L : List (List ℕ)} (H : Holds n c s L) wh
     insert-holds i t h pos top free =
         let p : ℕ = cell-at (n + k) (getD L k []) i in
         let v : ℕ = getD s p 0 in
-        let a = H .heads-fit in
+        let a = H .room .heads-fit in
         put k (set (set s t v) p t) (insert-at i t (getD L k [])) lo hi (simp length-set)
-        (insert-chain i t (H .chain k lo hi) (H .cells-are) (H .keys-fit) (omega arith) h pos top (λ e. omega arith) (free k))
+        (insert-chain i t (H .chain k lo hi) (H .room .cells-are) (H .room .keys-fit) (omega arith) h pos top (λ e. omega arith) (free k))
         (λ j x f low cell. two-stores s t p x v t
         (λ e. ⊎-elim (λ b. omega arith) (λ b. free j (Memᴰ·cast (sym e) b)) cell)
         (unlike j k f low lo (cell-of k i h) cell))
@@ -141,16 +139,16 @@ module _ {n c : ℕ} {s : List ℕ} {L : List (List ℕ)} (H : Holds n c s L) wh
     remove-holds i h =
         let p : ℕ = cell-at (n + k) (getD L k []) i in
         let v : ℕ = getD s (getD (getD L k []) i 0) 0 in
-        let a = H .heads-fit in
+        let a = H .room .heads-fit in
         put k (set s p v) (remove-at i (getD L k [])) lo hi (length-set s p v)
-        (remove-chain i (H .chain k lo hi) (H .cells-are) (H .keys-fit) (omega arith) h)
+        (remove-chain i (H .chain k lo hi) (H .room .cells-are) (H .room .keys-fit) (omega arith) h)
         (λ j x f low cell. getD-set-other s p x v 0 (unlike j k f low lo (cell-of k i (omega arith)) cell))
         (λ j x f a b. f (H .apart b (in-remove-old i (getD L k []) a)))
 
     pub clear-holds : Holds n c (set s (n + k) 0) (set L k [])
     clear-holds =
-        let a = H .heads-fit in
-        let z = H .cells-are in
+        let a = H .room .heads-fit in
+        let z = H .room .cells-are in
         put k (set s (n + k) 0) [] lo hi (length-set s (n + k) 0)
         (ends (getD-set-same s (n + k) 0 0 (omega arith)))
         (λ j x f low cell. getD-set-other s (n + k) x 0 0 (unlike j k f low lo (inl refl) cell))

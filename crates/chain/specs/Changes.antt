@@ -49,12 +49,6 @@ pub record Removed (numbers chains k x : ℕ) (s s' : List ℕ) (place : ℕ) : 
   pub place-is : place ≡ ahead x (getD (lists numbers chains s) k [])
   pub changed : Changed numbers chains k s s' (remove-at place (getD (lists numbers chains s) k []))
 
--- What can be tested of any cells: the arrays have room for a table of this size.
-pub record Testable (numbers chains : ℕ) (s : List ℕ) : Type 0 where
-  pub cells-are : length s ≡ cells
-  pub keys-fit : numbers < key-cells
-  pub heads-fit : numbers + chains < cells
-
 -- The answer says whether the table is sound. If it is, `standing` has for each number the chain that it stands in, 0 for none. If it isn't, what `standing` holds is free.
 pub record Tested (numbers chains : ℕ) (s standing : List ℕ) (answer : Bool) : Type 0 where
   pub size : length standing ≡ key-cells

@@ -37,17 +37,22 @@ pub data Chain (numbers : ℕ) (s : List ℕ) : ℕ → List ℕ → Type 0 wher
   ends : {cell : ℕ} → getD s cell 0 ≡ 0 → Chain numbers s cell []
   goes-on : {cell x : ℕ} {l : List ℕ} → getD s cell 0 ≡ x → 0 < x → x ≤ numbers → Chain numbers s x l → Chain numbers s cell (x ∷ l)
 
--- The cells hold these lists. That a chain has each number once, and so is followed for at most `numbers` of them, is a theorem (`short`).
-pub record Holds (numbers chains : ℕ) (s : List ℕ) (L : List (List ℕ)) : Type 0 where
+-- The arrays have room for a table of this size.
+pub record Room (numbers chains : ℕ) (s : List ℕ) : Type 0 where
   pub cells-are : length s ≡ cells
   pub keys-fit : numbers < key-cells
   pub heads-fit : numbers + chains < cells
+
+-- The cells hold these lists.
+pub record Holds (numbers chains : ℕ) (s : List ℕ) (L : List (List ℕ)) : Type 0 where
+  pub room : Room numbers chains s
   pub count : length L ≡ suc chains
   pub none : getD L 0 [] ≡ []
   pub chain : (k : ℕ) → 0 < k → k ≤ chains → Chain numbers s (numbers + k) (getD L k [])
   pub apart : {j k x : ℕ} → In x (getD L j []) → In x (getD L k []) → j ≡ k
 
--- "Sound" is document 01's word: each chain ends, with numbers of the table only, and no number stands in two places. The lists are those that are read.
+-- "Sound" is document 01's word: each chain ends, with numbers of the table only, and no number stands in two places. The lists are those that are read. That no chain comes round, and so none
+-- is followed for more than `numbers` of them, is a theorem (proofs/Chain.antt, `no-loop` and `short`).
 abbrev pub Sound : ℕ → ℕ → List ℕ → Type 0
 Sound numbers chains s = Holds numbers chains s (lists numbers chains s)
 

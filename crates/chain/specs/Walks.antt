@@ -66,10 +66,3 @@ pub record Marks (numbers cell mark left : ℕ) (s marks marks' : List ℕ) (ans
   pub size : length marks' ≡ length marks
   pub if-true : answer ≡ true → Marked numbers cell mark s marks marks'
   pub if-false : answer ≡ false → (l : List ℕ) → Chain numbers s cell l → length l ≤ left → Unmarked marks l → ⊥
-
--- The chains below k are chains, and the marks say which numbers stand in which of them.
-pub record MarkedBelow (numbers k : ℕ) (s marks : List ℕ) : Type 0 where
-  pub size : length marks ≡ key-cells
-  pub chain : (j : ℕ) → 0 < j → j < k → Chain numbers s (numbers + j) (follow numbers s (numbers + j))
-  pub marked : {j x : ℕ} → 0 < j → j < k → In x (follow numbers s (numbers + j)) → getD marks x 0 ≡ j
-  pub stands : {j x : ℕ} → 0 < j → getD marks x 0 ≡ j → (j < k) × In x (follow numbers s (numbers + j))

@@ -8,9 +8,9 @@ ghost use Prim.Native.Nat.{_<_, _≤_};
 ghost use lib.ListN.{length, getD, replicate};
 ghost use Rattle.lists.specs.Lists.{InOrder};
 ghost use Rattle.lists.specs.Tests.{Is};
-ghost use Rattle.chain.specs.Table.{key-cells, follow, lists, chain-of, keys-of, Sound};
+ghost use Rattle.chain.specs.Table.{key-cells, follow, lists, chain-of, keys-of, Room, Sound};
 ghost use Rattle.chain.specs.Walks.{Walk, Passes, Sought, Found, Marking, Marks};
-ghost use Rattle.chain.specs.Changes.{New, HasChain, Changed, Insertable, Inserted, Popped, Removed, Testable, Tested};
+ghost use Rattle.chain.specs.Changes.{New, HasChain, Changed, Insertable, Inserted, Popped, Removed, Tested};
 
 pub const CELLS: usize = 81;
 
@@ -262,7 +262,7 @@ pub fn sound(
     chains: usize,
     standing: &mut [u8; KEY_CELLS],
 ) -> bool
-    requires { ⌜ Testable numbers chains (now link) × (now standing ≡ replicate key-cells 0) ⌝ }
+    requires { ⌜ Room numbers chains (now link) × (now standing ≡ replicate key-cells 0) ⌝ }
     ensures { λ r. ⌜ Tested numbers chains (now (link .entry)) (now (standing .exit)) r ⌝ }
 {
     let mut chain: usize = 1;

@@ -2,8 +2,8 @@
 ghost use Prim.Native.Nat.{_<_};
 ghost use mathlib.Core.Path.{_≡_};
 ghost use lib.ListN.{replicate};
-ghost use Rattle.chain.specs.Table.{key-cells, lists, chain-of};
-ghost use Rattle.chain.specs.Changes.{HasChain, Insertable, Inserted, Popped, Removed, Testable, Tested};
+ghost use Rattle.chain.specs.Table.{key-cells, lists, chain-of, Room};
+ghost use Rattle.chain.specs.Changes.{HasChain, Insertable, Inserted, Popped, Removed, Tested};
 
 #[no_mangle]
 pub extern "C" fn linguastel_insert(
@@ -55,7 +55,7 @@ pub extern "C" fn linguastel_sound(
     chains: usize,
     standing: &mut [u8; 65],
 ) -> bool
-    requires { ⌜ Testable numbers chains (now link) × (now standing ≡ replicate key-cells 0) ⌝ }
+    requires { ⌜ Room numbers chains (now link) × (now standing ≡ replicate key-cells 0) ⌝ }
     ensures { λ r. ⌜ Tested numbers chains (now (link .entry)) (now (standing .exit)) r ⌝ }
 {
     chain::sound(link, numbers, chains, standing)

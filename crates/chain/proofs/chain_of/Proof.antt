@@ -37,7 +37,7 @@ returns c =
 
 add-chain : tie.Need-add-chain Inv-loop μ-loop
 add-chain c =
-    let h = c .before .before .before .before .before .pre .0 .heads-fit in
+    let h = c .before .before .before .before .before .pre .0 .room .heads-fit in
     let b = c .before .before .before .loop-test .taken in
     omega arith
 

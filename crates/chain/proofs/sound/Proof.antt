@@ -3,8 +3,7 @@ use Prim.Native.Nat.{_+_, _-_, _<_, _≤_}
 use mathlib.Core.Path.{_≡_}
 use native.Mathlib.Omega.{arith}
 use borrow.Author.Tests.{not-true, not-false}
-use Rattle.chain.specs.Walks.{MarkedBelow}
-use Rattle.chain.proofs.Marks.{marked-below-none, marked-below-more, tested-true, tested-false}
+use Rattle.chain.proofs.Marks.{MarkedBelow, marked-below-none, marked-below-more, tested-true, tested-false}
 use Rattle.chain.proofs.sound.Statement.{statement}
 use Rattle.chain.proofs.sound.Tie as tie
 
