@@ -93,6 +93,16 @@ module _ {n c k : ℕ} {s s' : List ℕ} (a : HasChain n c k s) where
       go (holds e) = standing-none a d (stands-there y k (lists n c s) e (a .low)) List·Memᴰ·not-nil
       go (fails f) = standing-same a d y (λ i. absurd (List·Memᴰ·not-nil i)) (λ i. absurd (f (stands-in (a .sound) k i)))
 
+-- Where there is a first number, a pop leaves the chain shorter.
+pub popped-shorter : {n c k : ℕ} {s s' : List ℕ} {x : ℕ} → HasChain n c k s → Popped n c k s s' x → (x ≡ 0 → ⊥)
+    → length (getD (lists n c s') k []) < length (getD (lists n c s) k [])
+unfolding remove-at
+popped-shorter {n} {c} {k} {s} a r f = rw (new-list a (r .changed)) (shorter (getD (lists n c s) k []) (λ z. f (r .first-is ∙ z)))
+  where
+    shorter : (l : List ℕ) → (getD l 0 0 ≡ 0 → ⊥) → length (remove-at 0 l) < length l
+    shorter [] g = absurd (g refl)
+    shorter (y ∷ l) g = omega arith
+
 -- A newcomer behind all others.
 module _ {n c k x limit : ℕ} {s key s' : List ℕ} {place : ℕ} (r : Inserted n c k x limit s key s' place) where
   -- A limit above all keys passes all.

@@ -10,10 +10,10 @@ use Rattle.lists.proofs.Places.{at-ahead, ahead-in}
 use Rattle.lists.proofs.Members.{in-at}
 use Rattle.chain.specs.Table.{lists, chain-of, Sound}
 use Rattle.chain.specs.Walks.{Found}
-use Rattle.chain.specs.Changes.{HasChain}
+use Rattle.chain.specs.Changes.{HasChain, Standing}
 use Rattle.chain.proofs.Chain.{holds-next}
 use Rattle.chain.proofs.Table.{chain-has}
-use Rattle.chain.proofs.Standing.{stands-in, stands-nowhere}
+use Rattle.chain.proofs.Standing.{stands-in, stands-nowhere, stands-within}
 use Rattle.chain.proofs.Changes.{chain-is, list-is, reached-place, reached-cell}
 
 -- The number stands in none of the chains below k.
@@ -32,6 +32,10 @@ next-chain H b h = record { sound = H; low = b .positive; high = h }
 -- All chains are passed.
 pub searched-all : {n c k x : ℕ} {s : List ℕ} → Sound n c s → NotBelow n c k x s → c < k → chain-of x (lists n c s) ≡ 0
 searched-all {n} {c} {x = x} {s} H b h = stands-nowhere x (lists n c s) (λ j i. let r = chain-has H j i in b .not-in j (omega arith) i)
+
+-- What the search answers.
+pub standing : {n c k x : ℕ} {s : List ℕ} → Sound n c s → chain-of x (lists n c s) ≡ k → Standing n c x s k
+standing {x = x} H e = record { chain-is = sym e; high = rw (← e) (stands-within H x) }
 
 module _ {n c k x : ℕ} {s : List ℕ} (a : HasChain n c k s) {at place : ℕ} (r : Found n (n + k) x s at place) where
   -- The cell at which the walk stops holds the number at its place.

@@ -3,7 +3,7 @@ use mathlib.Core.Path.{_≡_, refl, sym, _∙_}
 use mathlib.Core.Bool.{Bool, true, false, cond}
 use mathlib.Core.List.{List, [], _∷_, List·Memᴰ as In, List·Memᴰ·not-nil}
 use mathlib.Core.Logic.{_⊎_, inl, inr, ⊎-elim}
-use Prim.Native.Nat.{ℕ, zero, suc, _+_, _<_}
+use Prim.Native.Nat.{ℕ, zero, suc, _+_, _<_, _≤_}
 use native.Mathlib.Omega.{arith}
 use native.Mathlib.Decide.{ℕ-discrete}
 use lib.ListN.{getD}
@@ -55,6 +55,14 @@ module _ {n c : ℕ} {s : List ℕ} {L : List (List ℕ)} (H : Holds n c s L) wh
   -- A number that stands nowhere is in no list.
   pub stands-free : (x : ℕ) → chain-of x L ≡ 0 → (k : ℕ) → In x (getD L k []) → ⊥
   stands-free x e k i = let b = chain-has H k i in let q = stands-in k i in omega arith
+
+  -- A number stands in one of the table's chains, or in none.
+  pub stands-within : (x : ℕ) → chain-of x L ≤ c
+  stands-within x = go (chain-of x L) refl
+    where
+      go : (k : ℕ) → chain-of x L ≡ k → k ≤ c
+      go zero e = omega arith
+      go (suc k) e = chain-has H (suc k) (stands-there x (suc k) L e (omega arith)) .1
 
 -- One chain is changed.
 module _ {n c k : ℕ} {s s' l : List ℕ} (a : HasChain n c k s) (d : Changed n c k s s' l) where

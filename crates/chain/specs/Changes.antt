@@ -49,6 +49,11 @@ pub record Removed (numbers chains k x : ℕ) (s s' : List ℕ) (place : ℕ) : 
   pub place-is : place ≡ ahead x (getD (lists numbers chains s) k [])
   pub changed : Changed numbers chains k s s' (remove-at place (getD (lists numbers chains s) k []))
 
+-- The chain that the number stands in, which is one of the table's, or 0.
+pub record Standing (numbers chains x : ℕ) (s : List ℕ) (k : ℕ) : Type 0 where
+  pub chain-is : k ≡ chain-of x (lists numbers chains s)
+  pub high : k ≤ chains
+
 -- The answer says whether the table is sound. If it is, `standing` has for each number the chain that it stands in, 0 for none. If it isn't, what `standing` holds is free.
 pub record Tested (numbers chains : ℕ) (s standing : List ℕ) (answer : Bool) : Type 0 where
   pub size : length standing ≡ key-cells

@@ -1,22 +1,25 @@
-// Chains of numbers: tasks that wait and messages that are queued (document 01: chains serve data queues and mailboxes alike). One table of cells holds all chains of one kind of numbers; its list
-// meaning is in specs/Table.antt. A caller names numbers and chains, never a cell: all promises are about the lists.
+// Chains of numbers: tasks that wait and messages that are queued (document 01: chains serve data queues and mailboxes alike).
+// One table of cells holds all chains of one kind of numbers; specs/Table.antt says which lists they are. A caller names numbers
+// and chains, never a cell, and every promise is about the lists.
 //
-// Each function takes the table's size: it has the numbers 1 to `numbers` and the chains 1 to `chains`. A table for more chains needs a longer array and nothing else.
+// Each function takes the table's size: it has the numbers 1 to `numbers` and the chains 1 to `chains`. A table for more chains
+// needs a longer array and nothing else.
 ghost use mathlib.Core.Path.{_≡_};
 ghost use mathlib.Core.List.{[]};
-ghost use Prim.Native.Nat.{_<_, _≤_};
+ghost use Prim.Native.Nat.{_<_};
 ghost use lib.ListN.{length, getD, replicate};
 ghost use Rattle.lists.specs.Lists.{InOrder};
 ghost use Rattle.lists.specs.Tests.{Is};
 ghost use Rattle.chain.specs.Table.{key-cells, follow, lists, chain-of, keys-of, Room, Sound};
 ghost use Rattle.chain.specs.Walks.{Walk, Passes, Sought, Found, Marking, Marks};
-ghost use Rattle.chain.specs.Changes.{New, HasChain, Changed, Insertable, Inserted, Popped, Removed, Tested};
+ghost use Rattle.chain.specs.Changes.{New, HasChain, Changed, Insertable, Inserted, Popped, Removed, Standing, Tested};
 
 pub const CELLS: usize = 81;
 
 pub const KEY_CELLS: usize = 65;
 
-// A table of chains, with a key for each number: a task's priority, or the priority kept with a message.
+// A table of chains, with a key for each number: a task's priority, or the priority kept with a message. A caller lends `link`
+// to the functions below and looks at none of its cells.
 pub struct Chains {
     pub link: [u8; CELLS],
     pub key: [u8; KEY_CELLS],
@@ -97,7 +100,8 @@ fn find(link: &[u8; CELLS], numbers: usize, head: usize, number: u8) -> Spot
     Spot { at, place }
 }
 
-// Puts a number that stands in no chain into a chain, behind all whose key is at most the limit. Returns how many are ahead of it.
+// Puts a number that stands in no chain into a chain, behind all whose key is at most the limit. Returns how many are ahead
+// of it.
 pub fn insert(
     link: &mut [u8; CELLS],
     key: &[u8; KEY_CELLS],
@@ -170,7 +174,7 @@ pub fn first(link: &[u8; CELLS], numbers: usize, chains: usize, chain: usize) ->
 // Which chain a number stands in; 0 where it stands in none.
 pub fn chain_of(link: &[u8; CELLS], numbers: usize, chains: usize, number: u8) -> usize
     requires { ⌜ Sound numbers chains (now link) × (0 < number) ⌝ }
-    ensures { λ r. ⌜ r ≡ chain-of number (lists numbers chains (now (link .entry))) ⌝ }
+    ensures { λ r. ⌜ Standing numbers chains number (now (link .entry)) r ⌝ }
 {
     let mut chain: usize = 1;
     while chain <= chains {
@@ -226,7 +230,8 @@ pub fn in_order<'a>(
     in_order_from(link, key, numbers, numbers + chain, least, most)
 }
 
-// Follows the chain behind a cell for at most `left` numbers and marks each. False where the chain is longer, meets a number that isn't the table's or one that is marked already.
+// Follows the chain behind a cell for at most `left` numbers and marks each. False where the chain is longer, or meets a number
+// that isn't the table's or is marked already.
 fn mark(
     link: &[u8; CELLS],
     marks: &mut [u8; KEY_CELLS],
@@ -255,7 +260,8 @@ fn mark(
     mark(link, marks, numbers, next, chain, left - 1)
 }
 
-// Whether a table is sound, whatever its cells hold. `standing`, lent with zeros, then has for each number the chain that it stands in.
+// Whether a table is sound, whatever its cells hold. `standing`, lent with zeros, then has for each number the chain that it
+// stands in.
 pub fn sound(
     link: &[u8; CELLS],
     numbers: usize,

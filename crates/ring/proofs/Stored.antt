@@ -31,7 +31,7 @@ unfolding stored words-from ascending
 stored-none r e = rw e
 
 -- A word written at the place behind the newest, and counted, is stored behind the others.
-pub pushed : {s r : Ring} {word : ℕ} (at : ℕ) → InRange (s .head) (s .count) (s .capacity) → length (stored s) < s .capacity → length (s .words) ≡ places
+pub pushed : {s r : Ring} {word : ℕ} (at : ℕ) → InRange s → length (stored s) < s .capacity → length (s .words) ≡ places
     → at ≡ further places (s .head) (s .count) → r .words ≡ set (s .words) at word → r .head ≡ s .head → r .count ≡ s .count + 1
     → r .capacity ≡ s .capacity → Pushed s word r
 unfolding stored
@@ -47,7 +47,7 @@ pushed {s} {r} {word} at within room sized here written same-head one-more same-
     }
 
 -- With the next place as the head, and one word less counted, the word at the old head is taken out.
-pub popped : {s r : Ring} {word : ℕ} → InRange (s .head) (s .count) (s .capacity) → word ≡ getD (s .words) (s .head) 0 → r .words ≡ s .words
+pub popped : {s r : Ring} {word : ℕ} → InRange s → word ≡ getD (s .words) (s .head) 0 → r .words ≡ s .words
     → r .head ≡ further places (s .head) 1 → r .count + 1 ≡ s .count → r .capacity ≡ s .capacity → Popped s word r
 unfolding stored
 popped {s} {r} within oldest same-words next-head one-less same-capacity =

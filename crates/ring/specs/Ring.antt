@@ -24,15 +24,18 @@ words-from word-at size head count = map (λ n. word-at (further size head n)) (
 unfoldable pub stored : Ring → List ℕ
 stored r = words-from (λ place. getD (r .words) place 0) places (r .head) (r .count)
 
--- The ring starts at one of its places, and stores no more words than its capacity, which is at most its places.
-pub record InRange (head count capacity : ℕ) : Type 0 where
+-- A ring starts at one of its places, and stores no more words than its capacity, which is at most its places.
+pub record NumbersInRange (head count capacity : ℕ) : Type 0 where
   pub head-is-place : head < places
   pub count-fits : count ≤ capacity
   pub capacity-fits : capacity ≤ places
 
+abbrev pub InRange : Ring → Type 0
+InRange r = NumbersInRange (r .head) (r .count) (r .capacity)
+
 -- What holds of every ring that a method hands back: it is in range, with the capacity asked for.
 pub record Kept (capacity : ℕ) (r : Ring) : Type 0 where
-  pub in-range : InRange (r .head) (r .count) (r .capacity)
+  pub in-range : InRange r
   pub capacity-is : r .capacity ≡ capacity
 
 pub record Empty (capacity : ℕ) (r : Ring) : Type 0 where

@@ -5,7 +5,7 @@ ghost use mathlib.Core.List.{[]};
 ghost use Prim.Native.Nat.{_<_, _≤_};
 ghost use lib.ListN.{length};
 ghost use Rattle.lists.specs.Tests.{Is};
-ghost use Rattle.ring.specs.Ring.{places, further, stored, InRange, Empty, Pushed, Popped, Replaced};
+ghost use Rattle.ring.specs.Ring.{places, further, stored, NumbersInRange, InRange, Empty, Pushed, Popped, Replaced};
 
 pub const PLACES: usize = 16;
 
@@ -40,7 +40,7 @@ pub fn place_further(place: u8, n: u8) -> usize
 
 // Whether a ring with these numbers is in range.
 pub fn in_range(head: u8, count: u8, capacity: u8) -> bool
-    ensures { λ r. ⌜ Is (InRange head count capacity) r ⌝ }
+    ensures { λ r. ⌜ Is (NumbersInRange head count capacity) r ⌝ }
 {
     (head < 16) & (count <= capacity) & (capacity <= 16)
 }
@@ -75,7 +75,7 @@ impl Ring {
 
     // Stores a word behind the newest. There is room for it.
     pub fn push(mut self, word: u32) -> Ring
-        requires { ⌜ InRange (self .head) (self .count) (self .capacity) × (length (stored self) < self .capacity) ⌝ }
+        requires { ⌜ InRange self × (length (stored self) < self .capacity) ⌝ }
         ensures { λ r. ⌜ Pushed self word r ⌝ }
     {
         let count = self.count;
@@ -87,7 +87,7 @@ impl Ring {
 
     // Takes the oldest word out. There is one.
     pub fn pop(mut self) -> Taken
-        requires { ⌜ InRange (self .head) (self .count) (self .capacity) × (0 < length (stored self)) ⌝ }
+        requires { ⌜ InRange self × (0 < length (stored self)) ⌝ }
         ensures { λ r. ⌜ Popped self (r .word) (r .ring) ⌝ }
     {
         let head = self.head;
@@ -100,7 +100,7 @@ impl Ring {
 
     // Drops the oldest word and stores another behind the newest. There is one to drop.
     pub fn drop_oldest_and_push(self, word: u32) -> Ring
-        requires { ⌜ InRange (self .head) (self .count) (self .capacity) × (0 < length (stored self)) ⌝ }
+        requires { ⌜ InRange self × (0 < length (stored self)) ⌝ }
         ensures { λ r. ⌜ Replaced self word r ⌝ }
     {
         let taken = self.pop();

@@ -1,9 +1,8 @@
 -- `chain_of` returns the chain that has the number. The invariant: no chain passed has it. The chains left get fewer.
-use mathlib.Core.Path.{sym}
 use Prim.Native.Nat.{_+_, _-_}
 use native.Mathlib.Omega.{arith}
 use Rattle.chain.proofs.Changes.{head-fits, walk-from-head, reached-fits}
-use Rattle.chain.proofs.Search.{NotBelow, not-below-one, not-below-more, next-chain, searched-here, searched-all}
+use Rattle.chain.proofs.Search.{NotBelow, not-below-one, not-below-more, next-chain, searched-here, searched-all, standing}
 use Rattle.chain.proofs.chain_of.Statement.{statement}
 use Rattle.chain.proofs.chain_of.Tie as tie
 
@@ -33,7 +32,7 @@ returns c =
     let found = c .before .before in
     let test = found .before in
     let start = test .before .before in
-    sym (searched-here (next-chain (start .pre .0) (test .before .loop .inv) (test .loop-test .taken)) (found .find .ensures) (start .pre .1) (c .if1 .taken))
+    standing (start .pre .0) (searched-here (next-chain (start .pre .0) (test .before .loop .inv) (test .loop-test .taken)) (found .find .ensures) (start .pre .1) (c .if1 .taken))
 
 add-chain : tie.Need-add-chain Inv-loop μ-loop
 add-chain c =
@@ -52,7 +51,7 @@ loop-again c =
     not-below-more (next-chain (test .before .before .pre .0) b (test .loop-test .taken)) (found .find .ensures) (c .if1 .left) b
 
 returns-2 : tie.Need-returns-2 Inv-loop μ-loop
-returns-2 c = sym (searched-all (c .before .before .pre .0) (c .before .loop .inv) (c .loop-test .left))
+returns-2 c = standing (c .before .before .pre .0) (searched-all (c .before .before .pre .0) (c .before .loop .inv) (c .loop-test .left))
 
 pub chain-of-spec : {M : Type 1} → statement M
 chain-of-spec =

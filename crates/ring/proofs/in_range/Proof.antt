@@ -1,4 +1,4 @@
--- `ring::in_range` is exact: its three tests are, and they say what `InRange` says.
+-- `ring::in_range` is exact: its three tests are, and they say what `NumbersInRange` says.
 use Rattle.lists.proofs.Tests.{is-map, is-and, is-ltb, is-leb}
 use Rattle.ring.proofs.in_range.Statement.{statement}
 use Rattle.ring.proofs.in_range.Tie as tie

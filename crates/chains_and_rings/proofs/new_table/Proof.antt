@@ -1,0 +1,13 @@
+-- `new_table` is the library's new table, which is sound for every size.
+use borrow.Author.Needs.{needs}
+use Rattle.chains_and_rings.proofs.new_table.Statement.{statement}
+use Rattle.chains_and_rings.proofs.new_table.Tie as tie
+
+new-requires : tie.Need-new-requires
+new-requires c κs = search needs
+
+returns : tie.Need-returns
+returns c = let e = c .new .ensures in let p = c .before .pre in (e .sound _ _ (p .0) (p .1), e .keys-are)
+
+pub new-table-spec : {M : Type 1} → statement M
+new-table-spec = tie.close (tie.spec new-requires returns)
