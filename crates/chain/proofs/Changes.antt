@@ -1,12 +1,12 @@
 -- What the stores of each function do to the lists: by the laws of one changed chain, read back as the lists of the new cells.
 use mathlib.Core.Path.{_≡_, sym, ap, _∙_}
-use mathlib.Core.List.{List, [], List·Memᴰ as In}
+use mathlib.Core.List.{List, [], List·Memᴰ as In, tail, headD}
 use Prim.Native.Nat.{ℕ, _+_, _<_, _≤_}
 use native.Mathlib.Omega.{arith}
 use lib.ListN.{length, getD, set}
 use lib.Seq.{set-getD}
-use Rattle.lists.specs.Lists.{remove-at, ahead}
-use Rattle.lists.proofs.Places.{at-ahead, ahead-in}
+use Rattle.lists.specs.Lists.{remove-at, without, ahead}
+use Rattle.lists.proofs.Places.{at-ahead, ahead-in, first-at, remove-first}
 use Rattle.chain.specs.Table.{cells, follow, lists, chain-of, Chain, Holds}
 use Rattle.chain.specs.Walks.{Walk, Reached, Sought, Found}
 use Rattle.chain.specs.Changes.{HasChain, Changed, Insertable, Inserted, Popped, Removed}
@@ -29,10 +29,10 @@ module _ {n c k : ℕ} {s : List ℕ} (a : HasChain n c k s) where
   head-fits = let h = a .sound .room .heads-fit in let g = a .high in omega arith
 
   pub walk-from-head : Walk n (n + k) s
-  walk-from-head = record { cells-are = a .sound .room .cells-are; keys-fit = a .sound .room .keys-fit; cell-fits = head-fits; chain = rw list-is chain-is }
+  walk-from-head = record { cells-count = a .sound .room .cells-count; keys-fit = a .sound .room .keys-fit; cell-fits = head-fits; chain = rw list-is chain-is }
 
-  pub first-is : getD s (n + k) 0 ≡ getD (getD (lists n c s) k []) 0 0
-  first-is = holds-first chain-is
+  pub first-is : getD s (n + k) 0 ≡ headD (getD (lists n c s) k []) 0
+  first-is = holds-first chain-is ∙ first-at 0 (getD (lists n c s) k [])
 
   pub cleared : Changed n c k s (set s (n + k) 0) []
   cleared = changed (clear-holds (a .sound) (a .low) (a .high))
@@ -45,17 +45,18 @@ module _ {n c k : ℕ} {s : List ℕ} (a : HasChain n c k s) where
     pub popped : {y : ℕ} → y ≡ x → Popped n c k s (set s (n + k) (getD s y 0)) x
     popped w =
         let q = leads chain-is e f .split in
-        let y : x ≡ getD (getD (lists n c s) k []) 0 0 = rw q in
-        record { first-is = y; changed = changed (rw (w, y) (remove-holds (a .sound) (a .low) (a .high) 0 (let z = ap length q in omega arith))) }
+        let l : List ℕ = getD (lists n c s) k [] in
+        let y : x ≡ getD l 0 0 = rw q in
+        record { first-is = y ∙ first-at 0 l; changed = changed (rw (w, y, ← (remove-first l)) (remove-holds (a .sound) (a .low) (a .high) 0 (let z = ap length q in omega arith))) }
 
   -- There is none.
   pub popped-none : {x : ℕ} → getD s (n + k) 0 ≡ x → x ≡ 0 → Popped n c k s s x
-  unfolding remove-at
+  unfolding headD
   popped-none {x} e z =
       let q : getD (lists n c s) k [] ≡ [] = at-end chain-is (e ∙ z) in
       record { first-is = rw q z; changed = record { sound = a .sound; lists-are = rw (none-left q) (sym (set-getD (lists n c s) k [])) } }
     where
-      none-left : getD (lists n c s) k [] ≡ [] → remove-at 0 (getD (lists n c s) k []) ≡ getD (lists n c s) k []
+      none-left : getD (lists n c s) k [] ≡ [] → tail (getD (lists n c s) k []) ≡ getD (lists n c s) k []
       none-left q = rw q
 
   pub reached-place : {at place : ℕ} → Reached n (n + k) s at place → place ≤ length (getD (lists n c s) k [])
@@ -78,12 +79,14 @@ module _ {n c k : ℕ} {s : List ℕ} (a : HasChain n c k s) where
     removed-cell = let r = member-range (a .sound) k there in let h = a .sound .room .keys-fit in omega arith
 
     pub removed : {at place y : ℕ} → Found n (n + k) x s at place → y ≡ x → Removed n c k x s (set s at (getD s y 0)) place
+    unfolding without
     removed {at} {place} r w =
         let l : List ℕ = getD (lists n c s) k [] in
         let p : place ≡ ahead x l = rw list-is at (r .place-is) in
         let b : place < length l = let h = ahead-in x l there in omega arith in
         let y : getD l place 0 ≡ x = rw p (at-ahead x l (ahead-in x l there)) in
-        record { place-is = p; changed = changed (rw (w, reached-cell (r .reached), ← y) (remove-holds (a .sound) (a .low) (a .high) place b)) }
+        let v : remove-at place l ≡ remove-at (ahead x l) l = ap (λ (i : ℕ). remove-at i l) p in
+        record { place-is = p; changed = changed (rw (w, reached-cell (r .reached)) (rw (y, v) at (remove-holds (a .sound) (a .low) (a .high) place b))) }
 
 module _ {n c k x : ℕ} {s key : List ℕ} (a : Insertable n c k x s key) where
   pub inserted-cell : x < cells

@@ -1,23 +1,25 @@
--- Laws for callers: what each promise says of where the numbers stand, of a newcomer behind all others, and of a chain in order of its keys. By the changed list alone.
-use mathlib.Core.Path.{_≡_, refl, ap, _∙_}
+-- Laws for callers: where numbers stand after each function, a newcomer behind all others, the order of keys. By the changed list alone.
+use mathlib.Core.Path.{_≡_, refl, sym, ap, _∙_}
 use mathlib.Core.Bool.{Bool, cond}
-use mathlib.Core.List.{List, [], _∷_, _++_, List·Memᴰ as In, List·Memᴰ·not-nil}
+use mathlib.Core.List.{List, [], _∷_, _++_, tail, headD, List·Memᴰ as In, List·Memᴰ·head as here, List·Memᴰ·tail as there, List·Memᴰ·not-nil}
 use mathlib.Core.Logic.{⊎-elim}
-use Prim.Native.Nat.{ℕ, zero, suc, _<_, _≤_}
+use Prim.Native.Nat.{ℕ, suc, _<_, _≤_}
 use native.Mathlib.Omega.{arith}
 use lib.Dec.{eqb}
-use lib.ListN.{length, getD, length-map}
-use Rattle.lists.specs.Lists.{Each, InOrder, insert-at, remove-at}
-use Rattle.lists.specs.Tests.{Is, holds, fails}
+use lib.ListN.{length, getD, set, length-map}
+use lib.Seq.{getD-set-other}
+use Rattle.lists.specs.Lists.{Each, InOrder, insert-at, remove-at, ahead, without}
+use Rattle.lists.specs.Tests.{Whether, holds, fails}
 use Rattle.lists.proofs.Tests.{is-eqb}
 use Rattle.lists.proofs.Members.{in-at, in-inserted, in-insert-old, in-insert-cases, in-remove-old, in-remove-other}
-use Rattle.lists.proofs.Places.{at-ahead, ahead-in}
+use Rattle.lists.proofs.Once.{Once, once-removed}
+use Rattle.lists.proofs.Places.{at-ahead, ahead-in, first-at, remove-first, length-insert, passed-within, map-insert, map-remove}
 use Rattle.lists.proofs.Order.{insert-at-end, passed-all, in-order-insert, in-order-remove}
-use Rattle.chain.specs.Table.{lists, chain-of, keys-of}
+use Rattle.chain.specs.Table.{lists, Sound, chain-of, keys-of}
 use Rattle.chain.specs.Changes.{HasChain, Changed, Insertable, Inserted, Popped, Removed}
-use Rattle.chain.proofs.Chain.{Once, chain-once, once-removed, short, in-range}
+use Rattle.chain.proofs.Chain.{chain-once, short, in-range}
 use Rattle.chain.proofs.Table.{member-range}
-use Rattle.chain.proofs.Standing.{stands-in, stands-there, stands-nowhere, new-list, standing-new, standing-none, standing-same}
+use Rattle.chain.proofs.Standing.{stands-in, stands-there, stands-nowhere, stands-free, new-list, standing-new, standing-none, standing-same}
 use Rattle.chain.proofs.Changes.{chain-is}
 
 -- A chain has each number once, and only numbers of the table.
@@ -39,7 +41,7 @@ inserted-standing {n} {c} {k} {x} {s = s} {s' = s'} {place} a r y = go (is-eqb y
     l : List ℕ
     l = getD (lists n c s) k []
 
-    go : {b : Bool} → Is (y ≡ x) b → chain-of y (lists n c s') ≡ cond b k (chain-of y (lists n c s))
+    go : {b : Bool} → Whether (y ≡ x) b → chain-of y (lists n c s') ≡ cond b k (chain-of y (lists n c s))
     go (holds e) = rw e (standing-new (a .has) (r .changed) (in-inserted place x l))
     go (fails f) = standing-same (a .has) (r .changed) y (λ i. ⊎-elim (λ e. absurd (f e)) (λ o. o) (in-insert-cases place x l i)) (in-insert-old place x)
 
@@ -48,58 +50,60 @@ zero-nowhere {n} {c} {s = s} a = stands-nowhere 0 (lists n c s) (λ j i. let r =
 
 -- The number that is taken out stands nowhere, and all others where they stood.
 module _ {n c k : ℕ} {s s' : List ℕ} (a : HasChain n c k s) where
-  taken-standing : (i : ℕ) → i < length (getD (lists n c s) k []) → Changed n c k s s' (remove-at i (getD (lists n c s) k []))
+  taken-standing : (i : ℕ) {l' : List ℕ} → i < length (getD (lists n c s) k []) → l' ≡ remove-at i (getD (lists n c s) k []) → Changed n c k s s' l'
       → (y : ℕ) → chain-of y (lists n c s') ≡ cond (eqb y (getD (getD (lists n c s) k []) i 0)) 0 (chain-of y (lists n c s))
-  taken-standing i h d y = go (is-eqb y (getD l i 0))
+  taken-standing i h e d y = go (is-eqb y (getD l i 0))
     where
       l : List ℕ
       l = getD (lists n c s) k []
 
-      go : {b : Bool} → Is (y ≡ getD l i 0) b → chain-of y (lists n c s') ≡ cond b 0 (chain-of y (lists n c s))
-      go (holds e) = rw e (standing-none a d (in-at 0 l i h) (once-removed i (list-once a) h))
-      go (fails f) = standing-same a d y (in-remove-old i l) (in-remove-other 0 i f)
+      go : {b : Bool} → Whether (y ≡ getD l i 0) b → chain-of y (lists n c s') ≡ cond b 0 (chain-of y (lists n c s))
+      go (holds q) = rw q (standing-none a d (in-at 0 l i h) (λ m. once-removed i (list-once a) h (rw e at m)))
+      go (fails f) = standing-same a d y (λ m. in-remove-old i l (rw e at m)) (λ m. rw e (in-remove-other 0 i f m))
 
   pub removed-standing : {x place : ℕ} → chain-of x (lists n c s) ≡ k → Removed n c k x s s' place
       → (y : ℕ) → chain-of y (lists n c s') ≡ cond (eqb y x) 0 (chain-of y (lists n c s))
-  removed-standing {x} {place} e r y =
+  unfolding without
+  removed-standing {x} e r y =
       let l : List ℕ = getD (lists n c s) k [] in
       let h = ahead-in x l (stands-there x k (lists n c s) e (a .low)) in
-      let p = r .place-is in
-      let q : getD l place 0 ≡ x = rw p (at-ahead x l h) in
-      rw q at (taken-standing place (omega arith) (r .changed) y)
+      rw (at-ahead x l h) at (taken-standing (ahead x l) h refl (r .changed) y)
 
   -- Of an empty chain 0 is popped, which stands nowhere.
   pub popped-standing : {x : ℕ} → Popped n c k s s' x → (y : ℕ) → chain-of y (lists n c s') ≡ cond (eqb y x) 0 (chain-of y (lists n c s))
   popped-standing {x} r y = go (getD (lists n c s) k []) refl
     where
-      same : getD (lists n c s) k [] ≡ [] → chain-of y (lists n c s') ≡ chain-of y (lists n c s)
-      same e = standing-same a (r .changed) y (in-remove-old 0 (getD (lists n c s) k [])) (λ i. absurd (List·Memᴰ·not-nil (rw e at i)))
+      x-is : x ≡ getD (getD (lists n c s) k []) 0 0
+      x-is = r .first-is ∙ sym (first-at 0 (getD (lists n c s) k []))
 
-      nothing : getD (lists n c s) k [] ≡ [] → {b : Bool} → Is (y ≡ x) b → chain-of y (lists n c s') ≡ cond b 0 (chain-of y (lists n c s))
+      same : getD (lists n c s) k [] ≡ [] → chain-of y (lists n c s') ≡ chain-of y (lists n c s)
+      same e = standing-same a (r .changed) y (λ m. absurd (List·Memᴰ·not-nil (rw e at m))) (λ m. absurd (List·Memᴰ·not-nil (rw e at m)))
+
+      nothing : getD (lists n c s) k [] ≡ [] → {b : Bool} → Whether (y ≡ x) b → chain-of y (lists n c s') ≡ cond b 0 (chain-of y (lists n c s))
       nothing e (holds q) =
-          let z : x ≡ 0 = r .first-is ∙ ap (λ (l : List ℕ). getD l 0 0) e in
+          let z : x ≡ 0 = x-is ∙ ap (λ (l : List ℕ). getD l 0 0) e in
           same e ∙ rw (q, z) (zero-nowhere a)
       nothing e (fails f) = same e
 
       go : (l : List ℕ) → getD (lists n c s) k [] ≡ l → chain-of y (lists n c s') ≡ cond (eqb y x) 0 (chain-of y (lists n c s))
       go [] e = nothing e (is-eqb y x)
-      go (z ∷ l) e = rw (r .first-is) (taken-standing 0 (let q = ap length e in omega arith) (r .changed) y)
+      go (z ∷ l) e = rw x-is (taken-standing 0 (let q = ap length e in omega arith) (sym (remove-first (getD (lists n c s) k []))) (r .changed) y)
 
   -- All numbers of an emptied chain stand nowhere, and all others where they stood.
   pub cleared-standing : Changed n c k s s' [] → (y : ℕ) → chain-of y (lists n c s') ≡ cond (eqb (chain-of y (lists n c s)) k) 0 (chain-of y (lists n c s))
   cleared-standing d y = go (is-eqb (chain-of y (lists n c s)) k)
     where
-      go : {b : Bool} → Is (chain-of y (lists n c s) ≡ k) b → chain-of y (lists n c s') ≡ cond b 0 (chain-of y (lists n c s))
+      go : {b : Bool} → Whether (chain-of y (lists n c s) ≡ k) b → chain-of y (lists n c s') ≡ cond b 0 (chain-of y (lists n c s))
       go (holds e) = standing-none a d (stands-there y k (lists n c s) e (a .low)) List·Memᴰ·not-nil
       go (fails f) = standing-same a d y (λ i. absurd (List·Memᴰ·not-nil i)) (λ i. absurd (f (stands-in (a .sound) k i)))
 
 -- Where there is a first number, a pop leaves the chain shorter.
 pub popped-shorter : {n c k : ℕ} {s s' : List ℕ} {x : ℕ} → HasChain n c k s → Popped n c k s s' x → (x ≡ 0 → ⊥)
     → length (getD (lists n c s') k []) < length (getD (lists n c s) k [])
-unfolding remove-at
+unfolding headD
 popped-shorter {n} {c} {k} {s} a r f = rw (new-list a (r .changed)) (shorter (getD (lists n c s) k []) (λ z. f (r .first-is ∙ z)))
   where
-    shorter : (l : List ℕ) → (getD l 0 0 ≡ 0 → ⊥) → length (remove-at 0 l) < length l
+    shorter : (l : List ℕ) → (headD l 0 ≡ 0 → ⊥) → length (tail l) < length l
     shorter [] g = absurd (g refl)
     shorter (y ∷ l) g = omega arith
 
@@ -110,22 +114,27 @@ module _ {n c k x limit : ℕ} {s key s' : List ℕ} {place : ℕ} (r : Inserted
   unfolding keys-of
   all-passed h = r .place-is ∙ passed-all h ∙ simp length-map
 
-  pub inserted-last : HasChain n c k s → place ≡ length (getD (lists n c s) k []) → getD (lists n c s') k [] ≡ getD (lists n c s) k [] ++ x ∷ []
-  inserted-last a e = new-list a (r .changed) ∙ rw e (insert-at-end x (getD (lists n c s) k []))
+  pub inserted-last : place ≡ length (getD (lists n c s) k []) → Changed n c k s s' (getD (lists n c s) k [] ++ x ∷ [])
+  inserted-last e = rw (e, insert-at-end) at (r .changed)
+
+  -- Others stand ahead of it, so its place is below the table's numbers.
+  pub inserted-place : HasChain n c k s → place < n
+  unfolding keys-of
+  inserted-place a =
+      let l : List ℕ = getD (lists n c s) k [] in
+      let b : HasChain n c k s' = record { sound = r .changed .sound; low = a .low; high = a .high } in
+      let h : suc (length l) ≤ n = rw (new-list a (r .changed), length-insert) at (list-short b) in
+      let p : place ≤ length l = rw (r .place-is) (simp length-map at (passed-within limit (keys-of key l))) in
+      omega arith
 
 -- Keys move with their numbers.
 keys-insert : (key : List ℕ) (i x : ℕ) (l : List ℕ) → keys-of key (insert-at i x l) ≡ insert-at i (getD key x 0) (keys-of key l)
-unfolding keys-of insert-at
-keys-insert key zero x l = refl
-keys-insert key (suc i) x [] = refl
-keys-insert key (suc i) x (y ∷ l) = ap (λ (r : List ℕ). getD key y 0 ∷ r) (keys-insert key i x l)
+unfolding keys-of
+keys-insert key i x l = map-insert (λ y. getD key y 0) i x l
 
 keys-remove : (key : List ℕ) (i : ℕ) (l : List ℕ) → keys-of key (remove-at i l) ≡ remove-at i (keys-of key l)
-unfolding keys-of remove-at
-keys-remove key zero [] = refl
-keys-remove key zero (y ∷ l) = refl
-keys-remove key (suc i) [] = refl
-keys-remove key (suc i) (y ∷ l) = ap (λ (r : List ℕ). getD key y 0 ∷ r) (keys-remove key i l)
+unfolding keys-of
+keys-remove key i l = map-remove (λ y. getD key y 0) i l
 
 -- A newcomer with its own key as the limit keeps the order.
 pub inserted-in-order : {n c k x least most : ℕ} {s key s' : List ℕ} {place : ℕ} → HasChain n c k s → Inserted n c k x (getD key x 0) s key s' place
@@ -134,6 +143,26 @@ pub inserted-in-order : {n c k x least most : ℕ} {s key s' : List ℕ} {place 
 inserted-in-order {x = x} {key = key} a r lo hi o = rw (new-list a (r .changed), keys-insert, r .place-is) (in-order-insert (getD key x 0) lo hi o)
 
 -- Whoever leaves keeps the order of the others.
-pub taken-in-order : {n c k least most : ℕ} {s s' : List ℕ} (key : List ℕ) (i : ℕ) → HasChain n c k s → Changed n c k s s' (remove-at i (getD (lists n c s) k []))
+taken-in-order : {n c k least most : ℕ} {s s' l' : List ℕ} (key : List ℕ) (i : ℕ) → HasChain n c k s → Changed n c k s s' l' → l' ≡ remove-at i (getD (lists n c s) k [])
     → InOrder least most (keys-of key (getD (lists n c s) k [])) → InOrder least most (keys-of key (getD (lists n c s') k []))
-taken-in-order key i a d o = rw (new-list a d, keys-remove) (in-order-remove i o)
+taken-in-order key i a d e o = rw (new-list a d, e, keys-remove) (in-order-remove i o)
+
+module _ {n c k x least most : ℕ} {s s' : List ℕ} (key : List ℕ) (a : HasChain n c k s) where
+  pub popped-in-order : Popped n c k s s' x → InOrder least most (keys-of key (getD (lists n c s) k [])) → InOrder least most (keys-of key (getD (lists n c s') k []))
+  popped-in-order r = taken-in-order key 0 a (r .changed) (sym (remove-first (getD (lists n c s) k [])))
+
+  pub removed-in-order : {place : ℕ} → Removed n c k x s s' place
+      → InOrder least most (keys-of key (getD (lists n c s) k [])) → InOrder least most (keys-of key (getD (lists n c s') k []))
+  unfolding without
+  removed-in-order r = taken-in-order key (ahead x (getD (lists n c s) k [])) a (r .changed) refl
+
+-- A new key for a number outside a list leaves the keys of the list.
+keys-other : (key : List ℕ) (x v : ℕ) (l : List ℕ) → (In x l → ⊥) → keys-of (set key x v) l ≡ keys-of key l
+unfolding keys-of
+keys-other key x v [] f = refl
+keys-other key x v (y ∷ l) f = cc (getD-set-other key x y v 0 (λ e. f (here (sym e))), keys-other key x v l (λ m. f (there m)))
+
+-- So the key of a number that stands nowhere may be set before it is put in.
+pub keys-of-free : {n c : ℕ} {s : List ℕ} → Sound n c s → (key : List ℕ) (x v : ℕ) → chain-of x (lists n c s) ≡ 0
+    → (k : ℕ) → keys-of (set key x v) (getD (lists n c s) k []) ≡ keys-of key (getD (lists n c s) k [])
+keys-of-free {n} {c} {s} H key x v e k = keys-other key x v (getD (lists n c s) k []) (stands-free H x e k)

@@ -1,6 +1,6 @@
 -- The test of all chains is exact: a walk that marks each number fails only where no chain of unmarked numbers stands, and the marks of all chains say where each number stands.
 use mathlib.Core.Path.{_≡_, refl, sym, ap, _∙_}
-use mathlib.Core.Bool.{Bool, true, false}
+use mathlib.Core.Bool.{Bool, true, false, true≢false}
 use mathlib.Core.List.{List, [], _∷_, List·Memᴰ as In, List·Memᴰ·head as here, List·Memᴰ·tail as there, List·Memᴰ·not-nil, List·Memᴰ·cases-cons, Memᴰ·cast}
 use mathlib.Core.Logic.{_⊎_, inl, inr, ⊎-elim}
 use Prim.Native.Nat.{ℕ, zero, suc, _+_, _-_, _<_, _≤_}
@@ -8,18 +8,15 @@ use native.Mathlib.Omega.{arith}
 use native.Mathlib.Decide.{ℕ-discrete}
 use lib.ListN.{length, getD, set, length-set, replicate}
 use lib.Seq.{getD-set-same, getD-set-other}
-use Rattle.lists.specs.Tests.{Is, holds, fails}
+use Rattle.lists.specs.Tests.{Whether, holds, fails}
 use Rattle.lists.proofs.Members.{is-one-of}
 use Rattle.lists.proofs.Places.{all-same}
 use Rattle.chain.specs.Table.{key-cells, follow, lists, chain-of, Chain, ends, goes-on, Room, Sound}
-use Rattle.chain.specs.Walks.{Marking, Unmarked, mark-all, Marked, Marks}
+use Rattle.chain.specs.Walks.{Marking, Unmarked, mark-all, Marked, MarkTested}
 use Rattle.chain.specs.Changes.{Tested}
 use Rattle.chain.proofs.Chain.{in-range, no-loop, short, reads, leads}
 use Rattle.chain.proofs.Table.{length-lists, list-at, list-none, entry-range}
 use Rattle.chain.proofs.Standing.{stands-in, stands-nowhere}
-
-never : {P : Type 0} → _≡_ {A = Bool} true false → P
-never e = absurd (let z : _≡_ {A = ℕ} 0 1 = cc in omega arith)
 
 -- Marks of a list of numbers.
 marked-not : (marks l : List ℕ) (v x : ℕ) → (In x l → ⊥) → getD (mark-all marks l v) x 0 ≡ getD marks x 0
@@ -30,7 +27,7 @@ marked-in : (marks l : List ℕ) (v x : ℕ) → x < length marks → In x l →
 marked-in marks [] v x h i = absurd (List·Memᴰ·not-nil i)
 marked-in marks (y ∷ l) v x h i = go (is-one-of x l) (marked-in (set marks y v) l v x (rw length-set h)) (List·Memᴰ·cases-cons i)
   where
-    go : {b : Bool} → Is (In x l) b → (In x l → getD (mark-all (set marks y v) l v) x 0 ≡ v) → (x ≡ y) ⊎ In x l → getD (mark-all (set marks y v) l v) x 0 ≡ v
+    go : {b : Bool} → Whether (In x l) b → (In x l → getD (mark-all (set marks y v) l v) x 0 ≡ v) → (x ≡ y) ⊎ In x l → getD (mark-all (set marks y v) l v) x 0 ≡ v
     go (holds j) r o = r j
     go (fails f) r (inl e) = marked-not (set marks y v) l v x f ∙ rw e (getD-set-same marks y v 0 (rw (← e) h))
     go (fails f) r (inr j) = r j
@@ -39,36 +36,36 @@ marked-in marks (y ∷ l) v x h i = go (is-one-of x l) (marked-in (set marks y v
 pub marking-on : {n cell v : ℕ} {s marks : List ℕ} {next : ℕ} → Marking n cell v s marks → next ≤ n → Marking n next v s (set marks next v)
 marking-on {v = v} {marks = marks} {next} w top =
     let k = w .keys-fit in
-    record { cells-are = w .cells-are; marks-are = length-set marks next v ∙ w .marks-are; keys-fit = k; cell-fits = omega arith; mark-positive = w .mark-positive }
+    record { cells-count = w .cells-count; marks-count = length-set marks next v ∙ w .marks-count; keys-fit = k; cell-fits = omega arith; mark-positive = w .mark-positive }
 
 -- What each step of the walk has found.
 module _ {n cell v left : ℕ} {s marks : List ℕ} (w : Marking n cell v s marks) {next : ℕ} (e : getD s cell 0 ≡ next) where
-  pub mark-end : next ≡ 0 → Marks n cell v left s marks marks true
+  pub mark-end : next ≡ 0 → MarkTested n cell v left s marks marks true
   mark-end z =
       let c : Chain n s cell [] = ends (e ∙ z) in
       let q = reads c in
       record {
         size = refl;
         if-true = λ _. record { chain = rw q c; unmarked = λ x i. absurd (List·Memᴰ·not-nil (rw q at i)); marks-are = rw q };
-        if-false = λ b. never b;
+        if-false = λ b. absurd (true≢false b);
       }
 
   -- Where no such chain stands, the answer is false.
-  mark-fails : ((l : List ℕ) → Chain n s cell l → length l ≤ left → Unmarked marks l → ⊥) → Marks n cell v left s marks marks false
-  mark-fails h = record { size = refl; if-true = λ b. never (sym b); if-false = λ b. h }
+  mark-fails : ((l : List ℕ) → Chain n s cell l → length l ≤ left → Unmarked marks l → ⊥) → MarkTested n cell v left s marks marks false
+  mark-fails h = record { size = refl; if-true = λ b. absurd (true≢false (sym b)); if-false = λ b. h }
 
   module _ (f : next ≡ 0 → ⊥) where
-    pub mark-long : left ≡ 0 → Marks n cell v left s marks marks false
+    pub mark-long : left ≡ 0 → MarkTested n cell v left s marks marks false
     mark-long z = mark-fails λ l c h u. let g = ap length (leads c e f .split) in omega arith
 
-    pub mark-beyond : n < next → Marks n cell v left s marks marks false
+    pub mark-beyond : n < next → MarkTested n cell v left s marks marks false
     mark-beyond z = mark-fails λ l c h u. let g = leads c e f .in-table in omega arith
 
-    pub mark-met : (getD marks next 0 ≡ 0 → ⊥) → Marks n cell v left s marks marks false
+    pub mark-met : (getD marks next 0 ≡ 0 → ⊥) → MarkTested n cell v left s marks marks false
     mark-met z = mark-fails λ l c h u. z (u next (rw (leads c e f .split) (here refl)))
 
     pub mark-on : {marks' : List ℕ} {answer : Bool} → next ≤ n → getD marks next 0 ≡ 0 → 0 < left
-        → Marks n next v (left - 1) s (set marks next v) marks' answer → Marks n cell v left s marks marks' answer
+        → MarkTested n next v (left - 1) s (set marks next v) marks' answer → MarkTested n cell v left s marks marks' answer
     mark-on {marks'} top z pos a = record { size = a .size ∙ length-set marks next v; if-true = λ b. found (a .if-true b); if-false = λ b. none (a .if-false b) }
       where
         -- A chain doesn't come back to a number, so the new mark changes nothing further on.
@@ -109,7 +106,7 @@ marked-below-none n {marks = marks} e = record {
 }
 
 -- One chain more.
-pub marked-below-more : {n k : ℕ} {s marks marks' : List ℕ} → 0 < k → n < key-cells → MarkedBelow n k s marks → Marks n (n + k) k n s marks marks' true → MarkedBelow n (k + 1) s marks'
+pub marked-below-more : {n k : ℕ} {s marks marks' : List ℕ} → 0 < k → n < key-cells → MarkedBelow n k s marks → MarkTested n (n + k) k n s marks marks' true → MarkedBelow n (k + 1) s marks'
 marked-below-more {n} {k} {s} {marks} {marks'} pos fit b a = record {
   size = a .size ∙ b .size;
   chain = λ j lo hi. ch j lo hi (ℕ-discrete j k);
@@ -139,13 +136,13 @@ marked-below-more {n} {k} {s} {marks} {marks'} pos fit b a = record {
         let t = b .marked lo (omega arith) i in
         outside x (λ o. let z = m .unmarked x o in omega arith) ∙ t
 
-    st : {c : Bool} (j x : ℕ) → 0 < j → getD marks' x 0 ≡ j → Is (In x (follow n s (n + k))) c → (j < k + 1) × In x (follow n s (n + j))
+    st : {c : Bool} (j x : ℕ) → 0 < j → getD marks' x 0 ≡ j → Whether (In x (follow n s (n + k))) c → (j < k + 1) × In x (follow n s (n + j))
     st j x lo q (holds i) = let z : j ≡ k = let y = inside x i in omega arith in (omega arith, rw z i)
     st j x lo q (fails f) = let r = b .stands lo (sym (outside x f) ∙ q) in (let y = r .0 in omega arith, r .1)
 
 -- All chains are tested.
 pub tested-true : {n c : ℕ} {s marks : List ℕ} → Room n c s → MarkedBelow n (c + 1) s marks → Tested n c s marks true
-tested-true {n} {c} {s} {marks} t b = record { size = b .size; exact = holds sound'; standing-is = λ _ x. stand x (getD marks x 0) refl }
+tested-true {n} {c} {s} {marks} t b = record { exact = holds sound'; size = b .size; standing-is = λ _ x. stand x (getD marks x 0) refl; as-lent = λ e. absurd (true≢false e) }
   where
     range : (j : ℕ) {x : ℕ} → In x (getD (lists n c s) j []) → (0 < j) × (j ≤ c)
     range = entry-range c (lists n c s) (length-lists n c s) (list-none n c s)
@@ -170,8 +167,9 @@ tested-true {n} {c} {s} {marks} t b = record { size = b .size; exact = holds sou
         e ∙ sym (stands-in sound' (suc j) (rw (list-at n c s (suc j) (omega arith) (omega arith)) (r .1)))
 
 -- A chain fails the test.
-pub tested-false : {n c k : ℕ} {s marks marks' : List ℕ} → 0 < k → k ≤ c → MarkedBelow n k s marks → Marks n (n + k) k n s marks marks' false → Tested n c s marks' false
-tested-false {n} {c} {k} {s} {marks} lo hi b a = record { size = a .size ∙ b .size; exact = fails not-sound; standing-is = λ e. never (sym e) }
+pub tested-false : {n c k : ℕ} {s marks marks' : List ℕ} → 0 < k → k ≤ c → MarkedBelow n k s marks → MarkTested n (n + k) k n s marks marks' false
+    → Tested n c s (replicate key-cells 0) false
+tested-false {n} {c} {k} {s} {marks} lo hi b a = record { exact = fails not-sound; size = refl; standing-is = λ e. absurd (true≢false (sym e)); as-lent = λ _. refl }
   where
     unmarked : Sound n c s → (x : ℕ) → In x (getD (lists n c s) k []) → (v : ℕ) → getD marks x 0 ≡ v → v ≡ 0
     unmarked H x i zero e = refl

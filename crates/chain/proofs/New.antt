@@ -10,7 +10,7 @@ use Rattle.chain.proofs.Table.{lists-are}
 module _ (n c : ℕ) (k : n < key-cells) (h : n + c < cells) where
   new-holds : Holds n c (replicate cells 0) (replicate (suc c) [])
   new-holds = record {
-    room = record { cells-are = refl; keys-fit = k; heads-fit = h };
+    room = record { cells-count = refl; keys-fit = k; heads-fit = h };
     count = length-replicate (suc c) [];
     none = refl;
     chain = λ j lo hi. rw (all-same {X = List ℕ} [] (suc c) j) (ends (all-same 0 cells (n + j)));

@@ -10,7 +10,7 @@ use Rattle.lists.proofs.Places.{at-ahead, ahead-in}
 use Rattle.lists.proofs.Members.{in-at}
 use Rattle.chain.specs.Table.{lists, chain-of, Sound}
 use Rattle.chain.specs.Walks.{Found}
-use Rattle.chain.specs.Changes.{HasChain, Standing}
+use Rattle.chain.specs.Changes.{HasChain, StandsIn}
 use Rattle.chain.proofs.Chain.{holds-next}
 use Rattle.chain.proofs.Table.{chain-has}
 use Rattle.chain.proofs.Standing.{stands-in, stands-nowhere, stands-within}
@@ -34,7 +34,7 @@ pub searched-all : {n c k x : ℕ} {s : List ℕ} → Sound n c s → NotBelow n
 searched-all {n} {c} {x = x} {s} H b h = stands-nowhere x (lists n c s) (λ j i. let r = chain-has H j i in b .not-in j (omega arith) i)
 
 -- What the search answers.
-pub standing : {n c k x : ℕ} {s : List ℕ} → Sound n c s → chain-of x (lists n c s) ≡ k → Standing n c x s k
+pub standing : {n c k x : ℕ} {s : List ℕ} → Sound n c s → chain-of x (lists n c s) ≡ k → StandsIn n c x s k
 standing {x = x} H e = record { chain-is = sym e; high = rw (← e) (stands-within H x) }
 
 module _ {n c k x : ℕ} {s : List ℕ} (a : HasChain n c k s) {at place : ℕ} (r : Found n (n + k) x s at place) where

@@ -9,7 +9,7 @@ use native.Mathlib.Decide.{ℕ-discrete}
 use lib.ListN.{getD}
 use lib.Seq.{getD-set-same, getD-set-other}
 use Rattle.lists.specs.Lists.{one-of}
-use Rattle.lists.specs.Tests.{Is, holds, fails}
+use Rattle.lists.specs.Tests.{Whether, holds, fails}
 use Rattle.lists.proofs.Members.{is-one-of}
 use Rattle.chain.specs.Table.{lists, Holds, entry-of, chain-of}
 use Rattle.chain.specs.Changes.{HasChain, Changed}
@@ -24,7 +24,7 @@ unfolding entry-of
 entry x k [] = inr (refl, λ j i. List·Memᴰ·not-nil i)
 entry x k (l ∷ L) = go (one-of x l) (is-one-of x l) (entry x (suc k) L)
   where
-    go : (b : Bool) → Is (In x l) b → Entry x (suc k) L (entry-of x (suc k) L) → Entry x k (l ∷ L) (cond b k (entry-of x (suc k) L))
+    go : (b : Bool) → Whether (In x l) b → Entry x (suc k) L (entry-of x (suc k) L) → Entry x k (l ∷ L) (cond b k (entry-of x (suc k) L))
     go true (holds i) r = inl (0, omega arith, i)
     go false (fails n) (inl (j, e, i)) = inl (suc j, omega arith, i)
     go false (fails n) (inr (e, f)) = inr (e, absent)
@@ -75,17 +75,21 @@ module _ {n c k : ℕ} {s s' l : List ℕ} (a : HasChain n c k s) (d : Changed n
   pub other-list : (j : ℕ) → (j ≡ k → ⊥) → getD (lists n c s') j [] ≡ getD (lists n c s) j []
   other-list j f = rw (d .lists-are) (getD-set-other (lists n c s) k j l [] f)
 
+  -- A list of the new table is the changed one, or another as it was.
+  in-new : (j : ℕ) {x : ℕ} → In x (getD (lists n c s') j []) → In x l ⊎ ((j ≡ k → ⊥) × In x (getD (lists n c s) j []))
+  in-new j {x} m = go (ℕ-discrete j k)
+    where
+      go : Dec (j ≡ k) → In x l ⊎ ((j ≡ k → ⊥) × In x (getD (lists n c s) j []))
+      go (yes e) = inl (rw (e, new-list) at m)
+      go (no f) = inr (f, rw (other-list j f) at m)
+
   -- Whatever is in the new list stands in the chain.
   pub standing-new : {x : ℕ} → In x l → chain-of x (lists n c s') ≡ k
   standing-new i = stands-in (d .sound) k (rw new-list i)
 
   -- Whatever was in the old list and isn't in the new one stands nowhere.
   pub standing-none : {x : ℕ} → In x (getD (lists n c s) k []) → (In x l → ⊥) → chain-of x (lists n c s') ≡ 0
-  standing-none {x} i f = stands-nowhere x (lists n c s') (λ j m. at j m (ℕ-discrete j k))
-    where
-      at : (j : ℕ) → In x (getD (lists n c s') j []) → Dec (j ≡ k) → ⊥
-      at j m (yes e) = f (rw (e, new-list) at m)
-      at j m (no g) = g (a .sound .apart (rw (other-list j g) at m) i)
+  standing-none {x} i f = stands-nowhere x (lists n c s') (λ j m. ⊎-elim f (λ o. o .0 (a .sound .apart (o .1) i)) (in-new j m))
 
   -- Whatever is in both lists, or in neither, stands where it stood.
   pub standing-same : (x : ℕ) → (In x l → In x (getD (lists n c s) k [])) → (In x (getD (lists n c s) k []) → In x l)
@@ -98,8 +102,4 @@ module _ {n c k : ℕ} {s s' l : List ℕ} (a : HasChain n c k s) (d : Changed n
       was j i (no h) = stands-in (d .sound) j (rw (other-list j h) i) ∙ sym (stands-in (a .sound) j i)
 
       was-not : ((j : ℕ) → In x (getD (lists n c s) j []) → ⊥) → chain-of x (lists n c s') ≡ chain-of x (lists n c s)
-      was-not h = stands-nowhere x (lists n c s') (λ j m. at j m (ℕ-discrete j k)) ∙ sym (stands-nowhere x (lists n c s) h)
-        where
-          at : (j : ℕ) → In x (getD (lists n c s') j []) → Dec (j ≡ k) → ⊥
-          at j m (yes e) = h k (f (rw (e, new-list) at m))
-          at j m (no q) = h j (rw (other-list j q) at m)
+      was-not h = stands-nowhere x (lists n c s') (λ j m. ⊎-elim (λ i. h k (f i)) (λ o. h j (o .1)) (in-new j m)) ∙ sym (stands-nowhere x (lists n c s) h)

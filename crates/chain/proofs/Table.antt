@@ -1,26 +1,19 @@
 -- What holds of all chains of a table: the lists that it holds are those that are read, and a change of one chain's cells leaves the others. By the fact that no two chains share a cell.
 use mathlib.Core.Path.{_≡_, refl, sym, ap, _∙_}
-use mathlib.Core.List.{List, [], _∷_, map, List·Memᴰ as In, List·Memᴰ·not-nil, Memᴰ·cast}
+use mathlib.Core.List.{List, [], _∷_, List·Memᴰ as In, List·Memᴰ·not-nil, Memᴰ·cast}
 use mathlib.Core.Logic.{_⊎_, inl, inr, ⊎-elim}
 use Prim.Native.Nat.{ℕ, zero, suc, _+_, _<_, _≤_}
 use native.Mathlib.Omega.{arith}
 use native.Mathlib.Decide.{ℕ-discrete}
-use native.Mathlib.Nat.{le-of-suc-le-suc}
 use lib.ListN.{length, getD, set, length-set, length-map}
 use lib.Seq.{getD-set-same, getD-set-other, ext-getD}
-use Rattle.lists.specs.Lists.{ascending, insert-at, remove-at}
-use Rattle.lists.proofs.Ascending.{length-ascending}
+use Rattle.lists.specs.Lists.{insert-at, remove-at}
+use Rattle.lists.proofs.Ascending.{length-ascending, map-ascending-at}
 use Rattle.lists.proofs.Members.{in-at, in-insert-cases, in-remove-old}
 use Rattle.chain.specs.Table.{cells, follow, lists, Chain, ends, Holds}
 use Rattle.chain.proofs.Chain.{in-range, same-cells, two-stores, cell-at, insert-chain, remove-chain, reads}
 
 -- The lists that are read, of any cells.
-entry-at : (f : ℕ → List ℕ) (first count k : ℕ) → k < count → getD (map f (ascending first count)) k [] ≡ f (first + k)
-unfolding ascending
-entry-at f first zero k h = absurd (omega arith)
-entry-at f first (suc count) zero h = let z : first + 0 ≡ first = omega arith in rw z
-entry-at f first (suc count) (suc k) h = let z : first + suc k ≡ suc first + k = omega arith in rw z (entry-at f (suc first) count k (le-of-suc-le-suc h))
-
 pub length-lists : (n c : ℕ) (s : List ℕ) → length (lists n c s) ≡ suc c
 unfolding lists
 length-lists n c s = ap suc (rw (length-map, length-ascending))
@@ -28,7 +21,7 @@ length-lists n c s = ap suc (rw (length-map, length-ascending))
 pub list-at : (n c : ℕ) (s : List ℕ) (k : ℕ) → 0 < k → k ≤ c → getD (lists n c s) k [] ≡ follow n s (n + k)
 unfolding lists
 list-at n c s zero lo hi = absurd (omega arith)
-list-at n c s (suc k) lo hi = let z : n + suc k ≡ suc n + k = omega arith in rw z (entry-at (λ cell. follow n s cell) (suc n) c k hi)
+list-at n c s (suc k) lo hi = let z : n + suc k ≡ suc n + k = omega arith in rw z (map-ascending-at (λ cell. follow n s cell) [] (suc n) c k hi)
 
 pub list-none : (n c : ℕ) (s : List ℕ) → getD (lists n c s) 0 [] ≡ []
 unfolding lists
@@ -86,7 +79,7 @@ module _ {n c : ℕ} {s : List ℕ} {L : List (List ℕ)} (H : Holds n c s L) wh
       → ((j x : ℕ) → (j ≡ k → ⊥) → In x l' → In x (getD L j []) → ⊥)
       → Holds n c s' (set L k l')
   put k s' l' lo hi size new keep apart' = record {
-    room = record { cells-are = size ∙ H .room .cells-are; keys-fit = H .room .keys-fit; heads-fit = H .room .heads-fit };
+    room = record { cells-count = size ∙ H .room .cells-count; keys-fit = H .room .keys-fit; heads-fit = H .room .heads-fit };
     count = length-set L k l' ∙ H .count;
     none = other 0 (omega arith) ∙ H .none;
     chain = λ j a b. at j a b (ℕ-discrete j k);
@@ -128,7 +121,7 @@ module _ {n c : ℕ} {s : List ℕ} {L : List (List ℕ)} (H : Holds n c s L) wh
         let v : ℕ = getD s p 0 in
         let a = H .room .heads-fit in
         put k (set (set s t v) p t) (insert-at i t (getD L k [])) lo hi (simp length-set)
-        (insert-chain i t (H .chain k lo hi) (H .room .cells-are) (H .room .keys-fit) (omega arith) h pos top (λ e. omega arith) (free k))
+        (insert-chain i t (H .chain k lo hi) (H .room .cells-count) (H .room .keys-fit) (omega arith) h pos top (λ e. omega arith) (free k))
         (λ j x f low cell. two-stores s t p x v t
         (λ e. ⊎-elim (λ b. omega arith) (λ b. free j (Memᴰ·cast (sym e) b)) cell)
         (unlike j k f low lo (cell-of k i h) cell))
@@ -141,14 +134,14 @@ module _ {n c : ℕ} {s : List ℕ} {L : List (List ℕ)} (H : Holds n c s L) wh
         let v : ℕ = getD s (getD (getD L k []) i 0) 0 in
         let a = H .room .heads-fit in
         put k (set s p v) (remove-at i (getD L k [])) lo hi (length-set s p v)
-        (remove-chain i (H .chain k lo hi) (H .room .cells-are) (H .room .keys-fit) (omega arith) h)
+        (remove-chain i (H .chain k lo hi) (H .room .cells-count) (H .room .keys-fit) (omega arith) h)
         (λ j x f low cell. getD-set-other s p x v 0 (unlike j k f low lo (cell-of k i (omega arith)) cell))
         (λ j x f a b. f (H .apart b (in-remove-old i (getD L k []) a)))
 
     pub clear-holds : Holds n c (set s (n + k) 0) (set L k [])
     clear-holds =
         let a = H .room .heads-fit in
-        let z = H .room .cells-are in
+        let z = H .room .cells-count in
         put k (set s (n + k) 0) [] lo hi (length-set s (n + k) 0)
         (ends (getD-set-same s (n + k) 0 0 (omega arith)))
         (λ j x f low cell. getD-set-other s (n + k) x 0 0 (unlike j k f low lo (inl refl) cell))

@@ -1,6 +1,6 @@
 -- What a walk along a chain knows at each step, and what it has found where it stops. By reading the cell that it has come to.
 use mathlib.Core.Path.{_≡_, refl, sym, ap, _∙_}
-use mathlib.Core.Bool.{Bool, true, false}
+use mathlib.Core.Bool.{Bool, true, false, true≢false}
 use mathlib.Core.List.{List, [], _∷_}
 use Prim.Native.Nat.{ℕ, suc, _+_, _<_, _≤_}
 use native.Mathlib.Numerals.{add-one}
@@ -9,7 +9,7 @@ use lib.ListN.{length, getD, drop, length-drop}
 use lib.Seq.{getD-drop, drop-drop}
 use borrow.Author.Tests.{leb-true, leb-false, lt-leb, le-leb, eq-eqb, ne-eqb}
 use Rattle.lists.specs.Lists.{ahead, passed, InOrder, no-key, next-key}
-use Rattle.lists.specs.Tests.{Is, holds, fails}
+use Rattle.lists.specs.Tests.{Whether, holds, fails}
 use Rattle.lists.proofs.Tests.{is-map}
 use Rattle.lists.proofs.Order.{in-order-least, in-order-most, in-order-rest}
 use Rattle.chain.specs.Table.{key-cells, follow, keys-of}
@@ -31,7 +31,7 @@ module _ {n cell : ℕ} {s : List ℕ} (w : Walk n cell s) {next : ℕ} (e : get
     pub walk-on : Walk n next s
     walk-on =
         let h = has-key in
-        record { cells-are = w .cells-are; keys-fit = w .keys-fit; cell-fits = omega arith; chain = leads (w .chain) e f .chain }
+        record { cells-count = w .cells-count; keys-fit = w .keys-fit; cell-fits = omega arith; chain = leads (w .chain) e f .chain }
 
     -- What is left is shorter.
     pub shorter : length (follow n s next) < length (follow n s cell)
@@ -68,6 +68,31 @@ module _ {n head : ℕ} {s : List ℕ} {at place : ℕ} (r : Reached n head s at
       let p = r .place-fits in
       omega arith
 
+-- A walk that counts numbers up to the first at which it stops: those counted and those still to be counted make the count of the whole chain.
+pub record Counting (count : List ℕ → ℕ) (n head : ℕ) (s : List ℕ) (at place next : ℕ) : Type 0 where
+  pub reached : Reached n head s at place
+  pub next-is : getD s at 0 ≡ next
+  pub counted : place + count (follow n s at) ≡ count (follow n s head)
+
+pub counting-head : (count : List ℕ → ℕ) {n head : ℕ} {s : List ℕ} {next : ℕ} → Walk n head s → getD s head 0 ≡ next → Counting count n head s head 0 next
+counting-head count w e = record { reached = reached-head w; next-is = e; counted = omega arith }
+
+module _ {count : List ℕ → ℕ} {n head : ℕ} {s : List ℕ} {at place next : ℕ} (k : Counting count n head s at place next) where
+  counted-end : count [] ≡ 0 → next ≡ 0 → place ≡ count (follow n s head)
+  counted-end z e =
+      let p : place + count [] ≡ count (follow n s head) = rw (stops (k .reached .walk) (k .next-is) e) at (k .counted) in
+      omega arith
+
+  module _ (f : next ≡ 0 → ⊥) where
+    counted-split : place + count (next ∷ follow n s next) ≡ count (follow n s head)
+    counted-split = rw (splits (k .reached .walk) (k .next-is) f) at (k .counted)
+
+    counted-stop : count (next ∷ follow n s next) ≡ 0 → place ≡ count (follow n s head)
+    counted-stop h = let q = counted-split in omega arith
+
+    counting-next : {next' : ℕ} → count (next ∷ follow n s next) ≡ suc (count (follow n s next)) → getD s next 0 ≡ next' → Counting count n head s next (place + 1) next'
+    counting-next h e = let q = counted-split in record { reached = reached-next (k .reached) (k .next-is) f; next-is = e; counted = omega arith }
+
 -- How many keys a limit passes.
 module _ (key : List ℕ) (limit x : ℕ) (l : List ℕ) where
   passed-stop : limit < getD key x 0 → passed limit (keys-of key (x ∷ l)) ≡ 0
@@ -91,39 +116,30 @@ module _ {key limit : ℕ} {answer : Bool} (p : Passes key limit answer) where
   passes-no e = leb-false key limit (sym (p .answer-is) ∙ e)
 
   pub passes-some : answer ≡ false → limit ≡ 255 → ⊥
-  passes-some e h = let z = sym (p .all h) ∙ e in let y : _≡_ {A = ℕ} 0 1 = cc in omega arith
+  passes-some e h = true≢false (sym (p .all h) ∙ e)
 
--- The walk to a newcomer's place: what is passed and what is still to be passed make the place.
-pub record Seeking (n head limit : ℕ) (s key : List ℕ) (at place next : ℕ) : Type 0 where
-  pub reached : Reached n head s at place
-  pub next-is : getD s at 0 ≡ next
-  pub counted : place + passed limit (keys-of key (follow n s at)) ≡ passed limit (keys-of key (follow n s head))
+-- The walk to a newcomer's place counts the keys that the limit passes.
+abbrev pub Seeking : ℕ → ℕ → ℕ → List ℕ → List ℕ → ℕ → ℕ → ℕ → Type 0
+Seeking n head limit s key = Counting (λ l. passed limit (keys-of key l)) n head s
 
-pub seeking-head : {n head limit : ℕ} {s key : List ℕ} {next : ℕ} → Walk n head s → getD s head 0 ≡ next → Seeking n head limit s key head 0 next
-seeking-head w e = record { reached = reached-head w; next-is = e; counted = omega arith }
-
-module _ {n head limit : ℕ} {s key : List ℕ} {at place next : ℕ} (k : Seeking n head limit s key at place next) where
+module _ {n head limit : ℕ} {s : List ℕ} (key : List ℕ) {at place next : ℕ} (k : Seeking n head limit s key at place next) where
   pub sought-end : next ≡ 0 → Sought n head limit s key at place
-  sought-end z =
-      let q = stops (k .reached .walk) (k .next-is) z in
-      let p : place + 0 ≡ passed limit (keys-of key (follow n s head)) = rw (q, passed-none) at (k .counted) in
-      record { reached = k .reached; place-is = omega arith; at-the-end = λ h. reached-end (k .reached) q }
+  sought-end z = record {
+    reached = k .reached;
+    place-is = counted-end k (passed-none key limit) z;
+    at-the-end = λ h. reached-end (k .reached) (stops (k .reached .walk) (k .next-is) z);
+  }
 
   module _ (f : next ≡ 0 → ⊥) where
-    counted-split : place + passed limit (keys-of key (next ∷ follow n s next)) ≡ passed limit (keys-of key (follow n s head))
-    counted-split = rw (splits (k .reached .walk) (k .next-is) f) at (k .counted)
-
     pub sought-stop : limit < getD key next 0 → (limit ≡ 255 → ⊥) → Sought n head limit s key at place
-    sought-stop h g =
-        let p = passed-stop key limit next (follow n s next) h in
-        let q = counted-split in
-        record { reached = k .reached; place-is = omega arith; at-the-end = λ z. absurd (g z) }
+    sought-stop h g = record {
+      reached = k .reached;
+      place-is = counted-stop k f (passed-stop key limit next (follow n s next) h);
+      at-the-end = λ z. absurd (g z);
+    }
 
     pub seeking-next : {next' : ℕ} → getD key next 0 ≤ limit → getD s next 0 ≡ next' → Seeking n head limit s key next (place + 1) next'
-    seeking-next h e =
-        let p = passed-more key limit next (follow n s next) h in
-        let q = counted-split in
-        record { reached = reached-next (k .reached) (k .next-is) f; next-is = e; counted = omega arith }
+    seeking-next h = counting-next k f (passed-more key limit next (follow n s next) h)
 
 -- How many stand ahead of a number.
 module _ (t x : ℕ) (l : List ℕ) where
@@ -139,53 +155,37 @@ ahead-none : (t : ℕ) → ahead t [] ≡ 0
 unfolding ahead
 ahead-none t = refl
 
--- The walk to a number: those passed and those still ahead of it make the place.
-pub record Finding (n head t : ℕ) (s : List ℕ) (at place next : ℕ) : Type 0 where
-  pub reached : Reached n head s at place
-  pub next-is : getD s at 0 ≡ next
-  pub counted : place + ahead t (follow n s at) ≡ ahead t (follow n s head)
-
-pub finding-head : {n head t : ℕ} {s : List ℕ} {next : ℕ} → Walk n head s → getD s head 0 ≡ next → Finding n head t s head 0 next
-finding-head w e = record { reached = reached-head w; next-is = e; counted = omega arith }
+-- The walk to a number counts those ahead of it.
+abbrev pub Finding : ℕ → ℕ → ℕ → List ℕ → ℕ → ℕ → ℕ → Type 0
+Finding n head t s = Counting (ahead t) n head s
 
 module _ {n head t : ℕ} {s : List ℕ} {at place next : ℕ} (k : Finding n head t s at place next) where
   pub found-end : next ≡ 0 → Found n head t s at place
-  found-end z =
-      let p : place + 0 ≡ ahead t (follow n s head) = rw (stops (k .reached .walk) (k .next-is) z, ahead-none) at (k .counted) in
-      record { reached = k .reached; place-is = omega arith }
+  found-end z = record { reached = k .reached; place-is = counted-end k (ahead-none t) z }
 
   module _ (f : next ≡ 0 → ⊥) where
-    counted-ahead : place + ahead t (next ∷ follow n s next) ≡ ahead t (follow n s head)
-    counted-ahead = rw (splits (k .reached .walk) (k .next-is) f) at (k .counted)
-
     pub found-here : next ≡ t → Found n head t s at place
-    found-here h =
-        let p = ahead-stop t next (follow n s next) h in
-        let q = counted-ahead in
-        record { reached = k .reached; place-is = omega arith }
+    found-here h = record { reached = k .reached; place-is = counted-stop k f (ahead-stop t next (follow n s next) h) }
 
     pub finding-next : {next' : ℕ} → (next ≡ t → ⊥) → getD s next 0 ≡ next' → Finding n head t s next (place + 1) next'
-    finding-next h e =
-        let p = ahead-more t next (follow n s next) h in
-        let q = counted-ahead in
-        record { reached = reached-next (k .reached) (k .next-is) f; next-is = e; counted = omega arith }
+    finding-next h = counting-next k f (ahead-more t next (follow n s next) h)
 
 -- The test of order, one step from a cell.
 module _ {n cell : ℕ} {s : List ℕ} (w : Walk n cell s) {next : ℕ} (e : getD s cell 0 ≡ next) (key : List ℕ) (least most : ℕ) where
-  pub order-end : next ≡ 0 → Is (InOrder least most (keys-of key (follow n s cell))) true
+  pub order-end : next ≡ 0 → Whether (InOrder least most (keys-of key (follow n s cell))) true
   unfolding keys-of
   order-end z = rw (stops w e z) (holds no-key)
 
   module _ (f : next ≡ 0 → ⊥) where
-    pub order-low : getD key next 0 < least → Is (InOrder least most (keys-of key (follow n s cell))) false
+    pub order-low : getD key next 0 < least → Whether (InOrder least most (keys-of key (follow n s cell))) false
     unfolding keys-of
     order-low h = rw (splits w e f) (fails (λ o. let b = in-order-least o in omega arith))
 
-    pub order-high : most < getD key next 0 → Is (InOrder least most (keys-of key (follow n s cell))) false
+    pub order-high : most < getD key next 0 → Whether (InOrder least most (keys-of key (follow n s cell))) false
     unfolding keys-of
     order-high h = rw (splits w e f) (fails (λ o. let b = in-order-most o in omega arith))
 
     pub order-on : {answer : Bool} → least ≤ getD key next 0 → getD key next 0 ≤ most
-        → Is (InOrder (getD key next 0) most (keys-of key (follow n s next))) answer → Is (InOrder least most (keys-of key (follow n s cell))) answer
+        → Whether (InOrder (getD key next 0) most (keys-of key (follow n s next))) answer → Whether (InOrder least most (keys-of key (follow n s cell))) answer
     unfolding keys-of
     order-on a b i = rw (splits w e f) (is-map (λ o. next-key a b o) in-order-rest i)

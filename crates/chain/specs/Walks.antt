@@ -2,46 +2,46 @@
 use mathlib.Core.Path.{_≡_}
 use mathlib.Core.Bool.{Bool, true, false}
 use mathlib.Core.List.{List, [], _∷_, List·Memᴰ as In}
-use Prim.Native.Nat.{ℕ, _+_, _<_, _≤_}
+use Prim.Native.Nat.{ℕ, _<_, _≤_}
 use lib.Dec.{leb}
 use lib.ListN.{length, getD, drop, set}
 use Rattle.lists.specs.Lists.{ahead, passed}
-use Rattle.chain.specs.Table.{cells, key-cells, follow, Chain, keys-of}
+use Rattle.chain.specs.Table.{cells, key-cells, every-key, follow, Chain, keys-of}
 
 -- A chain stands behind the cell.
 pub record Walk (numbers cell : ℕ) (s : List ℕ) : Type 0 where
-  pub cells-are : length s ≡ cells
+  pub cells-count : length s ≡ cells
   pub keys-fit : numbers < key-cells
   pub cell-fits : cell < cells
   pub chain : Chain numbers s cell (follow numbers s cell)
 
--- The walk from the head's cell has come to a cell, with so many numbers behind it.
+-- The walk from the head's cell has come to the cell `at`, past `place` numbers.
 pub record Reached (numbers head : ℕ) (s : List ℕ) (at place : ℕ) : Type 0 where
   pub walk : Walk numbers at s
   pub place-fits : place ≤ length (follow numbers s head)
   pub at-is : at ≡ getD (head ∷ follow numbers s head) place 0
   pub left : drop place (follow numbers s head) ≡ follow numbers s at
 
--- A key is passed by a limit, and any key by 255.
+-- A limit passes the keys that are at most as large (our own term).
 pub record Passes (key limit : ℕ) (answer : Bool) : Type 0 where
   pub answer-is : answer ≡ leb key limit
-  pub all : limit ≡ 255 → answer ≡ true
+  pub all : limit ≡ every-key → answer ≡ true
 
 -- The cell behind which a newcomer with this limit belongs.
 pub record Sought (numbers head limit : ℕ) (s key : List ℕ) (at place : ℕ) : Type 0 where
   pub reached : Reached numbers head s at place
   pub place-is : place ≡ passed limit (keys-of key (follow numbers s head))
-  pub at-the-end : limit ≡ 255 → place ≡ length (follow numbers s head)
+  pub at-the-end : limit ≡ every-key → place ≡ length (follow numbers s head)
 
 -- The cell ahead of the number, or the last one where the number isn't there.
 pub record Found (numbers head x : ℕ) (s : List ℕ) (at place : ℕ) : Type 0 where
   pub reached : Reached numbers head s at place
   pub place-is : place ≡ ahead x (follow numbers s head)
 
--- What a marking walk asks. The marks are 0 or the number of a chain.
+-- What a marking walk asks: the arrays have their sizes, the numbers and the cell fit them, and the mark isn't 0.
 pub record Marking (numbers cell mark : ℕ) (s marks : List ℕ) : Type 0 where
-  pub cells-are : length s ≡ cells
-  pub marks-are : length marks ≡ key-cells
+  pub cells-count : length s ≡ cells
+  pub marks-count : length marks ≡ key-cells
   pub keys-fit : numbers < key-cells
   pub cell-fits : cell < cells
   pub mark-positive : 0 < mark
@@ -62,7 +62,7 @@ pub record Marked (numbers cell mark : ℕ) (s marks marks' : List ℕ) : Type 0
   pub marks-are : marks' ≡ mark-all marks (follow numbers s cell) mark
 
 -- The answer says whether such a chain, of at most `left` numbers, stands behind the cell.
-pub record Marks (numbers cell mark left : ℕ) (s marks marks' : List ℕ) (answer : Bool) : Type 0 where
+pub record MarkTested (numbers cell mark left : ℕ) (s marks marks' : List ℕ) (answer : Bool) : Type 0 where
   pub size : length marks' ≡ length marks
   pub if-true : answer ≡ true → Marked numbers cell mark s marks marks'
   pub if-false : answer ≡ false → (l : List ℕ) → Chain numbers s cell l → length l ≤ left → Unmarked marks l → ⊥

@@ -2,21 +2,26 @@
 // One table of cells holds all chains of one kind of numbers; specs/Table.antt says which lists they are. A caller names numbers
 // and chains, never a cell, and every promise is about the lists.
 //
-// Each function takes the table's size: it has the numbers 1 to `numbers` and the chains 1 to `chains`. A table for more chains
-// needs a longer array and nothing else.
+// The functions are handed the table's size: a table has the numbers 1 to `numbers` and the chains 1 to `chains`, at most 255. A
+// table for more chains needs a larger CELLS, here and in specs/Table.antt, and no other code or proof.
 ghost use mathlib.Core.Path.{_≡_};
-ghost use mathlib.Core.List.{[]};
+ghost use mathlib.Core.List.{[], headD};
 ghost use Prim.Native.Nat.{_<_};
 ghost use lib.ListN.{length, getD, replicate};
 ghost use Rattle.lists.specs.Lists.{InOrder};
-ghost use Rattle.lists.specs.Tests.{Is};
+ghost use Rattle.lists.specs.Tests.{Whether};
 ghost use Rattle.chain.specs.Table.{key-cells, follow, lists, chain-of, keys-of, Room, Sound};
-ghost use Rattle.chain.specs.Walks.{Walk, Passes, Sought, Found, Marking, Marks};
-ghost use Rattle.chain.specs.Changes.{New, HasChain, Changed, Insertable, Inserted, Popped, Removed, Standing, Tested};
+ghost use Rattle.chain.specs.Walks.{Walk, Passes, Sought, Found, Marking, MarkTested};
+ghost use Rattle.chain.specs.Changes.{New, HasChain, Changed, Insertable, Inserted, Popped, Removed, StandsIn, Tested};
 
+// Cell 0, then 32 tasks and 48 chains, or 64 messages and 16 chains.
 pub const CELLS: usize = 81;
 
+// Cell 0, which is no number's, then up to 64 numbers.
 pub const KEY_CELLS: usize = 65;
+
+// A limit that passes every key: a newcomer with it goes behind all.
+pub const EVERY_KEY: u8 = 255;
 
 // A table of chains, with a key for each number: a task's priority, or the priority kept with a message. A caller lends `link`
 // to the functions below and looks at none of its cells.
@@ -37,12 +42,13 @@ impl Chains {
     }
 }
 
-// A cell of a chain, and how many numbers stand ahead of what comes behind it.
+// Where a walk stops: a cell, and how many numbers it has passed.
 struct Spot {
     at: usize,
     place: usize,
 }
 
+// A number as an index of an array.
 fn wide(x: u8) -> usize
     ensures { λ r. ⌜ r ≡ x ⌝ }
 {
@@ -81,7 +87,7 @@ fn seek<'a>(
     Spot { at, place }
 }
 
-// Walks up to a number.
+// Walks to the cell ahead of a number, or to the last cell where the chain doesn't have the number.
 fn find(link: &[u8; CELLS], numbers: usize, head: usize, number: u8) -> Spot
     requires { ⌜ Walk numbers head (now link) ⌝ }
     ensures { λ r. ⌜ Found numbers head number (now (link .entry)) (r .at) (r .place) ⌝ }
@@ -100,8 +106,8 @@ fn find(link: &[u8; CELLS], numbers: usize, head: usize, number: u8) -> Spot
     Spot { at, place }
 }
 
-// Puts a number that stands in no chain into a chain, behind all whose key is at most the limit. Returns how many are ahead
-// of it.
+// Puts a number that stands in no chain into a chain, behind those at its head whose key is at most the limit. Returns how many
+// are ahead of it.
 pub fn insert(
     link: &mut [u8; CELLS],
     key: &[u8; KEY_CELLS],
@@ -128,12 +134,12 @@ pub fn pop(link: &mut [u8; CELLS], numbers: usize, chains: usize, chain: usize) 
     ensures { λ r. ⌜ Popped numbers chains chain (now (link .entry)) (now (link .exit)) r ⌝ }
 {
     let head = numbers + chain;
-    let number = link[head];
-    if number != 0 {
-        let x = wide(number);
+    let first = link[head];
+    if first != 0 {
+        let x = wide(first);
         link[head] = link[x];
     }
-    number
+    first
 }
 
 // Takes a number out of its chain. Returns how many were ahead of it.
@@ -166,7 +172,7 @@ pub fn clear(link: &mut [u8; CELLS], numbers: usize, chains: usize, chain: usize
 // The first number of a chain; 0 where there is none.
 pub fn first(link: &[u8; CELLS], numbers: usize, chains: usize, chain: usize) -> u8
     requires { ⌜ HasChain numbers chains chain (now link) ⌝ }
-    ensures { λ r. ⌜ r ≡ getD (getD (lists numbers chains (now (link .entry))) chain []) 0 0 ⌝ }
+    ensures { λ r. ⌜ r ≡ headD (getD (lists numbers chains (now (link .entry))) chain []) 0 ⌝ }
 {
     link[numbers + chain]
 }
@@ -174,12 +180,12 @@ pub fn first(link: &[u8; CELLS], numbers: usize, chains: usize, chain: usize) ->
 // Which chain a number stands in; 0 where it stands in none.
 pub fn chain_of(link: &[u8; CELLS], numbers: usize, chains: usize, number: u8) -> usize
     requires { ⌜ Sound numbers chains (now link) × (0 < number) ⌝ }
-    ensures { λ r. ⌜ Standing numbers chains number (now (link .entry)) r ⌝ }
+    ensures { λ r. ⌜ StandsIn numbers chains number (now (link .entry)) r ⌝ }
 {
     let mut chain: usize = 1;
     while chain <= chains {
-        let stop = find(link, numbers, numbers + chain, number);
-        let at = stop.at;
+        let spot = find(link, numbers, numbers + chain, number);
+        let at = spot.at;
         if link[at] == number {
             return chain;
         }
@@ -188,7 +194,7 @@ pub fn chain_of(link: &[u8; CELLS], numbers: usize, chains: usize, number: u8) -
     0
 }
 
-// Whether the keys behind a cell are from least to most, no larger one before a smaller.
+// Whether the keys behind a cell lie between `least` and `most`, with none smaller than the one before it.
 fn in_order_from<'a>(
     link: &'a [u8; CELLS],
     key: &'a [u8; KEY_CELLS],
@@ -198,23 +204,23 @@ fn in_order_from<'a>(
     most: u8,
 ) -> bool
     requires { ⌜ Walk numbers cell (now link) × (length (now key) ≡ key-cells) ⌝ }
-    ensures { λ r. ⌜ Is (InOrder least most (keys-of (now (key .entry)) (follow numbers (now (link .entry)) cell))) r ⌝ }
+    ensures { λ r. ⌜ Whether (InOrder least most (keys-of (now (key .entry)) (follow numbers (now (link .entry)) cell))) r ⌝ }
 {
     let next = wide(link[cell]);
     if next == 0 {
         return true;
     }
-    let k = key[next];
-    if k < least {
+    let next_key = key[next];
+    if next_key < least {
         return false;
     }
-    if most < k {
+    if most < next_key {
         return false;
     }
-    in_order_from(link, key, numbers, next, k, most)
+    in_order_from(link, key, numbers, next, next_key, most)
 }
 
-// Whether the keys of a chain are from least to most, no larger one before a smaller.
+// Whether the keys of a chain lie between `least` and `most`, with none smaller than the one before it.
 pub fn in_order<'a>(
     link: &'a [u8; CELLS],
     key: &'a [u8; KEY_CELLS],
@@ -225,7 +231,7 @@ pub fn in_order<'a>(
     most: u8,
 ) -> bool
     requires { ⌜ HasChain numbers chains chain (now link) × (length (now key) ≡ key-cells) ⌝ }
-    ensures { λ r. ⌜ Is (InOrder least most (keys-of (now (key .entry)) (getD (lists numbers chains (now (link .entry))) chain []))) r ⌝ }
+    ensures { λ r. ⌜ Whether (InOrder least most (keys-of (now (key .entry)) (getD (lists numbers chains (now (link .entry))) chain []))) r ⌝ }
 {
     in_order_from(link, key, numbers, numbers + chain, least, most)
 }
@@ -241,7 +247,7 @@ fn mark(
     left: usize,
 ) -> bool
     requires { ⌜ Marking numbers cell chain (now link) (now marks) ⌝ }
-    ensures { λ r. ⌜ Marks numbers cell chain left (now (link .entry)) (now (marks .entry)) (now (marks .exit)) r ⌝ }
+    ensures { λ r. ⌜ MarkTested numbers cell chain left (now (link .entry)) (now (marks .entry)) (now (marks .exit)) r ⌝ }
 {
     let next = wide(link[cell]);
     if next == 0 {
@@ -261,7 +267,7 @@ fn mark(
 }
 
 // Whether a table is sound, whatever its cells hold. `standing`, lent with zeros, then has for each number the chain that it
-// stands in.
+// stands in. Where the table isn't sound it has zeros again.
 pub fn sound(
     link: &[u8; CELLS],
     numbers: usize,
@@ -281,6 +287,7 @@ pub fn sound(
             chain as u8,
             numbers,
         ) {
+            *standing = [0; KEY_CELLS];
             return false;
         }
         chain += 1;

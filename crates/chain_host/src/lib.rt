@@ -1,14 +1,15 @@
 // The functions on chains for a program in another language that measures them. Each is the crate chain's own, with the same contract.
-ghost use Prim.Native.Nat.{_<_};
 ghost use mathlib.Core.Path.{_≡_};
 ghost use lib.ListN.{replicate};
 ghost use Rattle.chain.specs.Table.{key-cells, lists, chain-of, Room};
 ghost use Rattle.chain.specs.Changes.{HasChain, Insertable, Inserted, Popped, Removed, Tested};
+use chain::CELLS;
+use chain::KEY_CELLS;
 
 #[no_mangle]
 pub extern "C" fn linguastel_insert(
-    link: &mut [u8; 81],
-    key: &[u8; 65],
+    link: &mut [u8; CELLS],
+    key: &[u8; KEY_CELLS],
     numbers: usize,
     chains: usize,
     chain: usize,
@@ -23,7 +24,7 @@ pub extern "C" fn linguastel_insert(
 
 #[no_mangle]
 pub extern "C" fn linguastel_pop(
-    link: &mut [u8; 81],
+    link: &mut [u8; CELLS],
     numbers: usize,
     chains: usize,
     chain: usize,
@@ -36,7 +37,7 @@ pub extern "C" fn linguastel_pop(
 
 #[no_mangle]
 pub extern "C" fn linguastel_remove(
-    link: &mut [u8; 81],
+    link: &mut [u8; CELLS],
     numbers: usize,
     chains: usize,
     chain: usize,
@@ -50,10 +51,10 @@ pub extern "C" fn linguastel_remove(
 
 #[no_mangle]
 pub extern "C" fn linguastel_sound(
-    link: &[u8; 81],
+    link: &[u8; CELLS],
     numbers: usize,
     chains: usize,
-    standing: &mut [u8; 65],
+    standing: &mut [u8; KEY_CELLS],
 ) -> bool
     requires { ⌜ Room numbers chains (now link) × (now standing ≡ replicate key-cells 0) ⌝ }
     ensures { λ r. ⌜ Tested numbers chains (now (link .entry)) (now (standing .exit)) r ⌝ }

@@ -1,4 +1,5 @@
-// Shows each public function of the crates chain and ring at work: two chains of waiting tasks, a chain of messages and a ring of words.
+// Calls each public function of the crates chain and ring and prints what it gives: two chains of waiting tasks, a chain of messages, a
+// ring of words.
 ghost use mathlib.Core.Path.{_≡_};
 ghost use Prim.Native.Nat.{_+_, _<_, _≤_};
 ghost use lib.ListN.{length, getD, set};
@@ -6,6 +7,7 @@ ghost use Rattle.chain.specs.Table.{cells, key-cells, Sound};
 ghost use Rattle.chain.specs.Changes.{HasChain};
 ghost use Rattle.ring.specs.Ring.{InRange, Kept};
 use chain::CELLS;
+use chain::EVERY_KEY;
 use chain::KEY_CELLS;
 
 const TASKS: usize = 32;
@@ -20,9 +22,6 @@ const MESSAGE_CHAINS: usize = 16;
 const BY_ARRIVAL: usize = 1;
 
 const BY_PRIORITY: usize = 2;
-
-// A limit that passes every key.
-const EVERY_KEY: u8 = 255;
 
 fn print(text: &[u8]) {
     io::write_all(1, text);
@@ -101,7 +100,7 @@ fn print_chain(link: &[u8; CELLS], numbers: usize, chains: usize, chain: usize)
     print(b"\n");
 }
 
-// Puts a number into a chain, behind all whose key is at most the limit. A number that stands in a chain already stays there.
+// Puts a number into a chain, behind those at its head whose key is at most the limit. A number that stands in a chain already stays there.
 fn join(
     link: &mut [u8; CELLS],
     key: &[u8; KEY_CELLS],
@@ -298,7 +297,7 @@ fn show_soundness(link: &[u8; CELLS])
     let without_end = with_cell(link, 32, 3);
     let in_two_chains = with_cell(link, 34, 3);
     let beyond_table = with_cell(link, 32, 33);
-    print(b"Is the table sound?\n");
+    print(b"Whether the table sound?\n");
     print(b"  as it is:                                   ");
     print_soundness(link);
     print(b"  task 3 behind task 32: chain 1 has no end:  ");
@@ -400,11 +399,7 @@ fn print_range(head: u8, count: u8, capacity: u8) {
     print_answer(ring::in_range(head, count, capacity));
 }
 
-fn show_places() {
-    print(b"  after place 15 comes place ");
-    print_number(ring::next_place(15) as u64);
-    print(b", and 5 further than place 14 is place ");
-    print_last(ring::place_further(14, 5) as u64);
+fn show_ranges() {
     print_range(15, 3, 3);
     print_range(0, 4, 3);
 }
@@ -413,5 +408,5 @@ fn main() {
     show_tasks();
     show_messages();
     show_ring();
-    show_places();
+    show_ranges();
 }

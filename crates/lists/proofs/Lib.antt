@@ -4,5 +4,6 @@ pub mod Ascending
 pub mod Places
 pub mod Tests
 pub mod Members
+pub mod Once
 pub mod Order
 pub mod Samples

@@ -1,9 +1,9 @@
 -- What the places of a queue are: by induction on the list.
 use mathlib.Core.Path.{_≡_, refl, sym, ap}
 use mathlib.Core.Bool.{Bool, true, false, not, cond}
-use mathlib.Core.List.{List, [], _∷_, List·Memᴰ as In, List·Memᴰ·not-nil, List·Memᴰ·cases-cons}
+use mathlib.Core.List.{List, [], _∷_, tail, headD, map, List·Memᴰ as In, List·Memᴰ·not-nil, List·Memᴰ·cases-cons}
 use mathlib.Core.Logic.{_⊎_, inl, inr}
-use Prim.Native.Nat.{ℕ, zero, suc, _≤_, _<_}
+use Prim.Native.Nat.{ℕ, zero, suc, _≤_, _<_, zero-le, suc-le-suc}
 use native.Mathlib.Nat.{le-of-suc-le-suc, not-suc-le-zero}
 use native.Mathlib.Omega.{arith}
 use lib.Dec.{T, leb, eqb, leb→le, nleb→lt, eqb→eq}
@@ -61,8 +61,50 @@ ahead-in n (x ∷ xs) m = go (eqb x n) refl (List·Memᴰ·cases-cons m) (ahead-
     go false e (inl q) h = absurd (eqb-false x n e (sym q))
     go false e (inr i) h = let r = h i in omega arith
 
+-- What is made of each element moves with it.
+pub map-insert : {X Y : Type 0} (f : X → Y) (n : ℕ) (x : X) (l : List X) → map f (insert-at n x l) ≡ insert-at n (f x) (map f l)
+unfolding insert-at
+map-insert f zero x l = refl
+map-insert f (suc n) x [] = refl
+map-insert f (suc n) x (y ∷ l) = ap (λ r. f y ∷ r) (map-insert f n x l)
+
+pub map-remove : {X Y : Type 0} (f : X → Y) (n : ℕ) (l : List X) → map f (remove-at n l) ≡ remove-at n (map f l)
+unfolding remove-at
+map-remove f zero [] = refl
+map-remove f zero (y ∷ l) = refl
+map-remove f (suc n) [] = refl
+map-remove f (suc n) (y ∷ l) = ap (λ r. f y ∷ r) (map-remove f n l)
+
 -- A list of one element, many times over, with that element beyond its end.
 pub all-same : {X : Type 0} (d : X) (count k : ℕ) → getD (replicate count d) k d ≡ d
 all-same d zero k = refl
 all-same d (suc count) zero = refl
 all-same d (suc count) (suc k) = all-same d count k
+
+-- The first element, and what is left without it.
+module _ {X : Type 0} where
+  pub first-at : (d : X) (l : List X) → getD l 0 d ≡ headD l d
+  unfolding headD
+  first-at d [] = refl
+  first-at d (x ∷ l) = refl
+
+  pub remove-first : (l : List X) → remove-at 0 l ≡ tail l
+  unfolding remove-at
+  remove-first [] = refl
+  remove-first (x ∷ l) = refl
+
+  pub length-insert : (n : ℕ) (x : X) (l : List X) → length (insert-at n x l) ≡ suc (length l)
+  unfolding insert-at
+  length-insert zero x l = refl
+  length-insert (suc n) x [] = refl
+  length-insert (suc n) x (y ∷ l) = ap suc (length-insert n x l)
+
+-- No more keys are passed than there are.
+pub passed-within : (limit : ℕ) (keys : List ℕ) → passed limit keys ≤ length keys
+unfolding passed
+passed-within limit [] = zero-le
+passed-within limit (key ∷ keys) = go (leb key limit) (passed-within limit keys)
+  where
+    go : (b : Bool) → passed limit keys ≤ length keys → cond b (suc (passed limit keys)) 0 ≤ suc (length keys)
+    go true h = suc-le-suc h
+    go false h = zero-le

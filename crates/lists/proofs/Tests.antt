@@ -6,33 +6,33 @@ use Prim.Native.Nat.{ℕ, _<_, _≤_}
 use native.Mathlib.Omega.{arith}
 use lib.Dec.{leb, ltb, eqb}
 use borrow.Author.Tests.{leb-true, leb-false, ltb-true, ltb-false, eqb-true, eqb-false}
-use Rattle.lists.specs.Tests.{Is, holds, fails}
+use Rattle.lists.specs.Tests.{Whether, holds, fails}
 
 -- A Boolean is exact for what follows from its two values.
-pub is-of : {P : Type 0} (b : Bool) → (b ≡ true → P) → (b ≡ false → P → ⊥) → Is P b
+pub is-of : {P : Type 0} (b : Bool) → (b ≡ true → P) → (b ≡ false → P → ⊥) → Whether P b
 is-of true y n = holds (y refl)
 is-of false y n = fails (n refl)
 
 -- A test of one fact is a test of another that says the same.
-pub is-map : {P Q : Type 0} {b : Bool} → (P → Q) → (Q → P) → Is P b → Is Q b
+pub is-map : {P Q : Type 0} {b : Bool} → (P → Q) → (Q → P) → Whether P b → Whether Q b
 is-map f g (holds p) = holds (f p)
 is-map f g (fails n) = fails (λ q. n (g q))
 
-pub is-leb : (a b : ℕ) → Is (a ≤ b) (leb a b)
+pub is-leb : (a b : ℕ) → Whether (a ≤ b) (leb a b)
 is-leb a b = is-of (leb a b) (leb-true a b) (λ e h. let z = leb-false a b e in omega arith)
 
-pub is-ltb : (a b : ℕ) → Is (a < b) (ltb a b)
+pub is-ltb : (a b : ℕ) → Whether (a < b) (ltb a b)
 is-ltb a b = is-of (ltb a b) (ltb-true a b) (λ e h. let z = ltb-false a b e in omega arith)
 
-pub is-eqb : (a b : ℕ) → Is (a ≡ b) (eqb a b)
+pub is-eqb : (a b : ℕ) → Whether (a ≡ b) (eqb a b)
 is-eqb a b = is-of (eqb a b) (eqb-true a b) (eqb-false a b)
 
-pub is-and : {P Q : Type 0} {a b : Bool} → Is P a → Is Q b → Is (P × Q) (a && b)
+pub is-and : {P Q : Type 0} {a b : Bool} → Whether P a → Whether Q b → Whether (P × Q) (a && b)
 is-and (holds p) (holds q) = holds (p, q)
 is-and (holds p) (fails n) = fails (λ h. n (h .1))
 is-and (fails n) q = fails (λ h. n (h .0))
 
-pub is-or : {P Q : Type 0} {a b : Bool} → Is P a → Is Q b → Is (P ⊎ Q) (a || b)
+pub is-or : {P Q : Type 0} {a b : Bool} → Whether P a → Whether Q b → Whether (P ⊎ Q) (a || b)
 is-or (holds p) q = holds (inl p)
 is-or (fails n) (holds q) = holds (inr q)
 is-or (fails n) (fails m) = fails (λ h. ⊎-elim n m h)

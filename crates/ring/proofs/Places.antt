@@ -5,7 +5,7 @@ use mathlib.Core.Bool.{Bool}
 use Prim.Native.Nat.{ℕ, suc, _+_, _-_, _%_, _<_, _≤_}
 use native.Mathlib.Nat.{add-zero, mod-lt, mod-eq-of-lt, mod-add-mod, mod-eq-sub-mod}
 use native.Mathlib.Omega.{arith}
-use Rattle.lists.specs.Tests.{Is, holds, fails}
+use Rattle.lists.specs.Tests.{Whether, holds, fails}
 use Rattle.lists.proofs.Tests.{is-ltb}
 use Rattle.ring.specs.Ring.{further}
 
@@ -33,7 +33,7 @@ reached : (size place n : ℕ) → place < size → n ≤ size → Reached size 
 unfolding further
 reached size place n p h = go (is-ltb (place + n) size)
   where
-    go : {b : Bool} → Is (place + n < size) b → Reached size place n
+    go : {b : Bool} → Whether (place + n < size) b → Reached size place n
     go (holds l) = before-end (mod-eq-of-lt l)
     go (fails l) =
         past-end (omega (arith, mod-eq-sub-mod {n = place + n} {m = size} (omega arith), mod-eq-of-lt {n = place + n - size} {m = size} (omega arith)))

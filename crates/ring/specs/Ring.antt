@@ -1,18 +1,20 @@
--- Document 01, "Data queues" (stored words) and "A sound record" (where a ring starts, unused cells): which words a ring stores, and what its methods promise.
+-- Document 01, "The kernel part we mean" (the ring of 16 words, the capacity), "Sending and receiving" (stored words) and "A sound record"
+-- (stored count, where a ring starts, unused cells): which words a ring stores, and what its methods promise.
 --
--- Free, and seen by no caller: where the ring starts, which is any of its places, and the cells outside the stored words, which hold anything. Neither counts for equality.
+-- Free, and seen by no caller: where the ring starts, which is any of its places, and the cells outside the stored words, which hold anything.
+-- Neither counts for equality. In the records below, s is the ring before a method and r the ring that it hands back.
 use mathlib.Core.Path.{_≡_}
-use mathlib.Core.List.{List, [], _∷_, _++_, map}
+use mathlib.Core.List.{List, [], _∷_, _++_, map, tail}
 use Prim.Native.Nat.{ℕ, _+_, _%_, _<_, _≤_}
-use lib.ListN.{getD, drop}
+use lib.ListN.{getD}
 use Rattle.lists.specs.Lists.{ascending}
 use Rattle.ring.specs.declared.Ring.{Ring}
 
--- How many places a ring has.
+-- How many places a ring has. A place of a ring is an index of its words, as in document 01's "head place"; it isn't the place of a waiter.
 abbrev pub places : ℕ
 places = 16
 
--- The place that is n further than one, in a ring of so many places.
+-- The place n steps after a place, in a ring of so many places.
 unfoldable pub further : ℕ → ℕ → ℕ → ℕ
 further size place n = (place + n) % size
 
@@ -30,14 +32,16 @@ pub record NumbersInRange (head count capacity : ℕ) : Type 0 where
   pub count-fits : count ≤ capacity
   pub capacity-fits : capacity ≤ places
 
+-- The same, of a ring's own numbers.
 abbrev pub InRange : Ring → Type 0
 InRange r = NumbersInRange (r .head) (r .count) (r .capacity)
 
--- What holds of every ring that a method hands back: it is in range, with the capacity asked for.
+-- What holds of every ring that a method hands back: it is in range, with this capacity.
 pub record Kept (capacity : ℕ) (r : Ring) : Type 0 where
   pub in-range : InRange r
   pub capacity-is : r .capacity ≡ capacity
 
+-- No word is stored.
 pub record Empty (capacity : ℕ) (r : Ring) : Type 0 where
   pub words-are : stored r ≡ []
   pub kept : Kept capacity r
@@ -54,5 +58,5 @@ pub record Popped (s : Ring) (word : ℕ) (r : Ring) : Type 0 where
 
 -- The oldest word is gone, and the word is stored behind the others.
 pub record Replaced (s : Ring) (word : ℕ) (r : Ring) : Type 0 where
-  pub words-are : stored r ≡ drop 1 (stored s) ++ word ∷ []
+  pub words-are : stored r ≡ tail (stored s) ++ word ∷ []
   pub kept : Kept (s .capacity) r

@@ -1,13 +1,14 @@
-// A store of words, as a ring (document 01: each queue's control record holds its own ring of 16 words). Every method is by value and is promised on the list of
-// stored words, oldest first.
+// A store of words, as a ring (document 01: each queue's control record holds its own ring of 16 words). Every method is by value and is
+// promised on the list of stored words, oldest first.
 ghost use mathlib.Core.Path.{_≡_};
-ghost use mathlib.Core.List.{[]};
 ghost use Prim.Native.Nat.{_<_, _≤_};
 ghost use lib.ListN.{length};
-ghost use Rattle.lists.specs.Tests.{Is};
+ghost use Rattle.lists.specs.Tests.{Whether};
 ghost use Rattle.ring.specs.Ring.{places, further, stored, NumbersInRange, InRange, Empty, Pushed, Popped, Replaced};
 
 pub const PLACES: usize = 16;
+
+// The number 16 below is PLACES as a byte, the type of places and counts.
 
 pub struct Ring {
     pub words: [u32; PLACES],
@@ -22,16 +23,16 @@ pub struct Taken {
     pub ring: Ring,
 }
 
-// The place after one. The last is followed by the first.
-pub fn next_place(place: u8) -> u8
+// The place after this one. The first comes after the last.
+fn next_place(place: u8) -> u8
     requires { ⌜ place < places ⌝ }
     ensures { λ r. ⌜ r ≡ further places place 1 ⌝ }
 {
     (place + 1) % 16
 }
 
-// The place that is n further than one.
-pub fn place_further(place: u8, n: u8) -> usize
+// The place n steps after this one.
+fn place_further(place: u8, n: u8) -> usize
     requires { ⌜ (place < places) × (n ≤ places) ⌝ }
     ensures { λ r. ⌜ r ≡ further places place n ⌝ }
 {
@@ -40,7 +41,7 @@ pub fn place_further(place: u8, n: u8) -> usize
 
 // Whether a ring with these numbers is in range.
 pub fn in_range(head: u8, count: u8, capacity: u8) -> bool
-    ensures { λ r. ⌜ Is (NumbersInRange head count capacity) r ⌝ }
+    ensures { λ r. ⌜ Whether (NumbersInRange head count capacity) r ⌝ }
 {
     (head < 16) & (count <= capacity) & (capacity <= 16)
 }

@@ -38,8 +38,8 @@ module _ (t : ℕ) where
   returns : lts.Need-returns (callees t) (at t) own.Post
   returns c = order-end (c .before .before .before .pre .1 .0) (sym (c .before .wide .ensures)) _ _ _ (c .if1 .taken)
 
-  element-copy-out-k : lts.Need-element-copy-out-k (callees t) (at t) own.Post
-  element-copy-out-k c = let h = has-key (c .before .before .before .pre .1 .0) (sym (c .before .wide .ensures)) (c .if1 .left) in omega arith
+  element-copy-out-next-key : lts.Need-element-copy-out-next-key (callees t) (at t) own.Post
+  element-copy-out-next-key c = let h = has-key (c .before .before .before .pre .1 .0) (sym (c .before .wide .ensures)) (c .if1 .left) in omega arith
 
   returns-2 : lts.Need-returns-2 (callees t) (at t) own.Post
   returns-2 c =
@@ -71,7 +71,7 @@ pub +in-order-from-spec : {M : Type 1} → statement M
     (element-copy-out-wide t)
     (wide-requires t)
     (returns t)
-    (element-copy-out-k t)
+    (element-copy-out-next-key t)
     (returns-2 t)
     (returns-3 t)
     (in-order-from-requires t)

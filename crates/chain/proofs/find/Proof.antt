@@ -4,7 +4,7 @@ use native.Mathlib.Omega.{arith}
 use lib.ListN.{length}
 use borrow.Author.Needs.{needs}
 use Rattle.chain.specs.Table.{follow}
-use Rattle.chain.proofs.Walks.{has-key, shorter, place-small, Finding, finding-head, finding-next, found-end, found-here}
+use Rattle.chain.proofs.Walks.{has-key, shorter, place-small, counting-head, Finding, finding-next, found-end, found-here}
 use Rattle.chain.proofs.find.Statement.{statement}
 use Rattle.chain.proofs.find.Tie as tie
 
@@ -18,7 +18,7 @@ element-copy-out-next : tie.Need-element-copy-out-next Inv-loop μ-loop
 element-copy-out-next c = let h = c .pre .cell-fits in omega arith
 
 loop-holds : tie.Need-loop-holds Inv-loop μ-loop
-loop-holds c = finding-head (c .before .pre) refl
+loop-holds c = counting-head _ (c .before .pre) refl
 
 returns : tie.Need-returns Inv-loop μ-loop
 returns c = found-here (c .before .before .loop .inv) (c .before .loop-test .taken) (c .if1 .taken)

@@ -9,7 +9,7 @@ add-seek : tie.Need-add-seek
 add-seek c = let h = head-fits (c .before .pre .has) in omega arith
 
 seek-requires : tie.Need-seek-requires
-seek-requires c κs = (walk-from-head (c .before .pre .has), c .before .pre .keys-are)
+seek-requires c κs = (walk-from-head (c .before .pre .has), c .before .pre .keys-count)
 
 wide-requires : tie.Need-wide-requires
 wide-requires c κs = search needs

@@ -9,8 +9,8 @@ use Rattle.chain.proofs.pop.Tie as tie
 add-head : tie.Need-add-head
 add-head c = let h = head-fits (c .pre) in omega arith
 
-element-copy-out-number : tie.Need-element-copy-out-number
-element-copy-out-number c = let h = head-fits (c .pre) in omega arith
+element-copy-out-first : tie.Need-element-copy-out-first
+element-copy-out-first c = let h = head-fits (c .pre) in omega arith
 
 wide-requires : tie.Need-wide-requires
 wide-requires c κs = search needs
@@ -35,7 +35,7 @@ pop-spec =
     tie.close
     (tie.spec
     add-head
-    element-copy-out-number
+    element-copy-out-first
     wide-requires
     element-copy-out-link
     element-write-link

@@ -5,7 +5,7 @@ use lib.ListN.{length}
 use borrow.Author.Needs.{needs}
 use borrow.Author.Tests.{not-true, not-false}
 use Rattle.chain.specs.Table.{follow}
-use Rattle.chain.proofs.Walks.{has-key, shorter, place-small, Seeking, seeking-head, seeking-next, sought-end, sought-stop, passes-yes, passes-no, passes-some}
+use Rattle.chain.proofs.Walks.{has-key, shorter, place-small, counting-head, Seeking, seeking-next, sought-end, sought-stop, passes-yes, passes-no, passes-some}
 use Rattle.chain.proofs.seek.Statement.{statement}
 use Rattle.chain.proofs.seek.Tie as tie
 
@@ -22,7 +22,7 @@ wide-requires : tie.Need-wide-requires Inv-loop μ-loop
 wide-requires c κs = search needs
 
 loop-holds : tie.Need-loop-holds Inv-loop μ-loop
-loop-holds c = seeking-head (c .before .before .pre .0) (sym (c .wide .ensures))
+loop-holds c = counting-head _ (c .before .before .pre .0) (sym (c .wide .ensures))
 
 element-copy-out-passes : tie.Need-element-copy-out-passes Inv-loop μ-loop
 element-copy-out-passes c =
@@ -38,7 +38,7 @@ returns c =
     let test = c .before .before .before in
     let f = not-true (c .before .passes .result) (c .if1 .taken) in
     let p = c .before .passes .ensures in
-    sought-stop (test .before .loop .inv) (test .loop-test .taken) (passes-no p f) (passes-some p f)
+    sought-stop _ (test .before .loop .inv) (test .loop-test .taken) (passes-no p f) (passes-some p f)
 
 add-place : tie.Need-add-place Inv-loop μ-loop
 add-place c =
@@ -66,10 +66,10 @@ loop-again c =
     let passed = c .before .before .before in
     let test = passed .before .before in
     let t = not-false (passed .passes .result) (c .before .before .if1 .left) in
-    seeking-next (test .before .loop .inv) (test .loop-test .taken) (passes-yes (passed .passes .ensures) t) (sym (c .wide2 .ensures))
+    seeking-next _ (test .before .loop .inv) (test .loop-test .taken) (passes-yes (passed .passes .ensures) t) (sym (c .wide2 .ensures))
 
 returns-2 : tie.Need-returns-2 Inv-loop μ-loop
-returns-2 c = sought-end (c .before .loop .inv) (c .loop-test .left)
+returns-2 c = sought-end _ (c .before .loop .inv) (c .loop-test .left)
 
 pub seek-spec : {M : Type 1} → statement M
 seek-spec =

@@ -34,12 +34,14 @@ mark-requires c κs =
     let h = t .heads-fit in
     let b = c .before .loop-test .taken in
     let i = c .before .before .loop .inv in
-    record { cells-are = t .cells-are; marks-are = i .2 .size; keys-fit = t .keys-fit; cell-fits = omega arith; mark-positive = i .0 }
+    record { cells-count = t .cells-count; marks-count = i .2 .size; keys-fit = t .keys-fit; cell-fits = omega arith; mark-positive = i .0 }
 
 returns : tie.Need-returns Inv-loop μ-loop
 returns c =
-    let i = c .before .before .before .before .loop .inv in
-    tested-false (i .0) (c .before .before .before .loop-test .taken) (i .2) (rw (not-true (c .before .mark .result) (c .if1 .taken)) at (c .before .mark .ensures))
+    let marked = c .before .before in
+    let test = marked .before .before in
+    let i = test .before .loop .inv in
+    tested-false (i .0) (test .loop-test .taken) (i .2) (rw (not-true (marked .mark .result) (c .before .if1 .taken)) at (marked .mark .ensures))
 
 add-chain : tie.Need-add-chain Inv-loop μ-loop
 add-chain c =
