@@ -1,7 +1,7 @@
--- What holds of one chain: it has each number once, it is what `follow` reads, and the two changes of cells put a number in or take one out. By induction on the chain.
+-- One chain: it has each number once, it is what `follow` reads, and a store puts a number in or takes one out. By induction on the chain.
 use mathlib.Core.Path.{_≡_, refl, sym, ap, _∙_, subst}
 use mathlib.Core.List.{List, [], _∷_, List·Memᴰ as In, List·Memᴰ·head as here, List·Memᴰ·tail as there, List·Memᴰ·cases-cons, Memᴰ·cast}
-use mathlib.Core.Logic.{⊎-elim}
+use mathlib.Core.Logic.{_≢_, ⊎-elim}
 use Prim.Native.Nat.{ℕ, zero, suc, _<_, _≤_}
 use native.Mathlib.Omega.{arith}
 use native.Mathlib.Nat.{le-of-suc-le-suc}
@@ -45,16 +45,16 @@ same-cells (ends e) h o = ends (h ∙ e)
 same-cells (goes-on {x = x} e lo hi c) h o = goes-on (h ∙ e) lo hi (same-cells c (o x (here refl)) (λ y i. o y (there i)))
 
 -- Two stores leave the other cells alone.
-pub two-stores : (s : List ℕ) (i j x v w : ℕ) → (x ≡ i → ⊥) → (x ≡ j → ⊥) → getD (set (set s i v) j w) x 0 ≡ getD s x 0
+pub two-stores : (s : List ℕ) (i j x v w : ℕ) → x ≢ i → x ≢ j → getD (set (set s i v) j w) x 0 ≡ getD s x 0
 two-stores s i j x v w f g = getD-set-other (set s i v) j x w 0 g ∙ getD-set-other s i x v 0 f
 
--- The cell that has n numbers up to it: the head's for 0, then each number's own.
+-- The cell that a walk has reached after i numbers: the head's for 0, then the i-th number's own.
 abbrev pub cell-at : ℕ → List ℕ → ℕ → ℕ
-cell-at head l n = getD (head ∷ l) n 0
+cell-at head l i = getD (head ∷ l) i 0
 
--- t goes behind the cell that has i numbers up to it.
+-- t is put in behind the cell reached after i numbers.
 pub insert-chain : {n : ℕ} {s : List ℕ} {cell : ℕ} {l : List ℕ} (i t : ℕ) → Chain n s cell l → length s ≡ cells → n < key-cells → cell < cells
-    → i ≤ length l → 0 < t → t ≤ n → (cell ≡ t → ⊥) → (In t l → ⊥)
+    → i ≤ length l → 0 < t → t ≤ n → cell ≢ t → (In t l → ⊥)
     → Chain n (set (set s t (getD s (cell-at cell l i) 0)) (cell-at cell l i) t) cell (insert-at i t l)
 unfolding insert-at
 insert-chain {n} {s} {cell} {l} zero t c z k f h lo hi a o =
@@ -119,7 +119,7 @@ pub record LeadsTo (n : ℕ) (s l : List ℕ) (x : ℕ) : Type 0 where
   pub chain : Chain n s x (follow n s x)
   pub split : l ≡ x ∷ follow n s x
 
-pub leads : {n : ℕ} {s : List ℕ} {cell : ℕ} {l : List ℕ} {x : ℕ} → Chain n s cell l → getD s cell 0 ≡ x → (x ≡ 0 → ⊥) → LeadsTo n s l x
+pub leads : {n : ℕ} {s : List ℕ} {cell : ℕ} {l : List ℕ} {x : ℕ} → Chain n s cell l → getD s cell 0 ≡ x → x ≢ 0 → LeadsTo n s l x
 leads (ends e) g f = absurd (f (sym g ∙ e))
 leads {n} {s} {x = x} (goes-on {x = y} {l = l} e lo hi c) g f =
     let q : y ≡ x = sym e ∙ g in
@@ -131,7 +131,7 @@ pub holds-first : {n : ℕ} {s : List ℕ} {cell : ℕ} {l : List ℕ} → Chain
 holds-first (ends e) = e
 holds-first (goes-on e lo hi c) = e
 
--- The cell that has i numbers up to it holds the number that has i ahead of it.
+-- The cell reached after i numbers holds the number that has i ahead of it.
 pub holds-next : {n : ℕ} {s : List ℕ} {cell : ℕ} {l : List ℕ} (i : ℕ) → Chain n s cell l → i ≤ length l → getD s (cell-at cell l i) 0 ≡ getD l i 0
 holds-next zero c h = holds-first c
 holds-next (suc i) (ends e) h = absurd (omega arith)

@@ -1,6 +1,7 @@
 -- What the stores of each function do to the lists: by the laws of one changed chain, read back as the lists of the new cells.
 use mathlib.Core.Path.{_≡_, sym, ap, _∙_}
 use mathlib.Core.List.{List, [], List·Memᴰ as In, tail, headD}
+use mathlib.Core.Logic.{_≢_}
 use Prim.Native.Nat.{ℕ, _+_, _<_, _≤_}
 use native.Mathlib.Omega.{arith}
 use lib.ListN.{length, getD, set}
@@ -18,6 +19,7 @@ use Rattle.chain.proofs.Standing.{stands-there, stands-free}
 changed : {n c k : ℕ} {s s' l : List ℕ} → Holds n c s' (set (lists n c s) k l) → Changed n c k s s' l
 changed H = record { sound = rw (lists-are H) H; lists-are = lists-are H }
 
+-- What is known of one chain of a sound table: its list, its head's cell, a walk from there.
 module _ {n c k : ℕ} {s : List ℕ} (a : HasChain n c k s) where
   pub chain-is : Chain n s (n + k) (getD (lists n c s) k [])
   chain-is = a .sound .chain k (a .low) (a .high)
@@ -38,7 +40,7 @@ module _ {n c k : ℕ} {s : List ℕ} (a : HasChain n c k s) where
   cleared = changed (clear-holds (a .sound) (a .low) (a .high))
 
   -- There is a first number.
-  module _ {x : ℕ} (e : getD s (n + k) 0 ≡ x) (f : x ≡ 0 → ⊥) where
+  module _ {x : ℕ} (e : getD s (n + k) 0 ≡ x) (f : x ≢ 0) where
     pub popped-cell : x < cells
     popped-cell = let h = leads chain-is e f .in-table in let g = a .sound .room .keys-fit in omega arith
 

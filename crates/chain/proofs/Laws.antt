@@ -2,7 +2,7 @@
 use mathlib.Core.Path.{_≡_, refl, sym, ap, _∙_}
 use mathlib.Core.Bool.{Bool, cond}
 use mathlib.Core.List.{List, [], _∷_, _++_, tail, headD, List·Memᴰ as In, List·Memᴰ·head as here, List·Memᴰ·tail as there, List·Memᴰ·not-nil}
-use mathlib.Core.Logic.{⊎-elim}
+use mathlib.Core.Logic.{_≢_, ⊎-elim}
 use Prim.Native.Nat.{ℕ, suc, _<_, _≤_}
 use native.Mathlib.Omega.{arith}
 use lib.Dec.{eqb}
@@ -98,12 +98,12 @@ module _ {n c k : ℕ} {s s' : List ℕ} (a : HasChain n c k s) where
       go (fails f) = standing-same a d y (λ i. absurd (List·Memᴰ·not-nil i)) (λ i. absurd (f (stands-in (a .sound) k i)))
 
 -- Where there is a first number, a pop leaves the chain shorter.
-pub popped-shorter : {n c k : ℕ} {s s' : List ℕ} {x : ℕ} → HasChain n c k s → Popped n c k s s' x → (x ≡ 0 → ⊥)
+pub popped-shorter : {n c k : ℕ} {s s' : List ℕ} {x : ℕ} → HasChain n c k s → Popped n c k s s' x → x ≢ 0
     → length (getD (lists n c s') k []) < length (getD (lists n c s) k [])
 unfolding headD
 popped-shorter {n} {c} {k} {s} a r f = rw (new-list a (r .changed)) (shorter (getD (lists n c s) k []) (λ z. f (r .first-is ∙ z)))
   where
-    shorter : (l : List ℕ) → (headD l 0 ≡ 0 → ⊥) → length (tail l) < length l
+    shorter : (l : List ℕ) → headD l 0 ≢ 0 → length (tail l) < length l
     shorter [] g = absurd (g refl)
     shorter (y ∷ l) g = omega arith
 

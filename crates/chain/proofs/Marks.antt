@@ -1,8 +1,8 @@
--- The test of all chains is exact: a walk that marks each number fails only where no chain of unmarked numbers stands, and the marks of all chains say where each number stands.
+-- The test of all chains is exact: a marking walk fails only where no chain of unmarked numbers stands, and the marks say where each stands.
 use mathlib.Core.Path.{_≡_, refl, sym, ap, _∙_}
 use mathlib.Core.Bool.{Bool, true, false, true≢false}
 use mathlib.Core.List.{List, [], _∷_, List·Memᴰ as In, List·Memᴰ·head as here, List·Memᴰ·tail as there, List·Memᴰ·not-nil, List·Memᴰ·cases-cons, Memᴰ·cast}
-use mathlib.Core.Logic.{_⊎_, inl, inr, ⊎-elim}
+use mathlib.Core.Logic.{_≢_, _⊎_, inl, inr, ⊎-elim}
 use Prim.Native.Nat.{ℕ, zero, suc, _+_, _-_, _<_, _≤_}
 use native.Mathlib.Omega.{arith}
 use native.Mathlib.Decide.{ℕ-discrete}
@@ -54,14 +54,14 @@ module _ {n cell v left : ℕ} {s marks : List ℕ} (w : Marking n cell v s mark
   mark-fails : ((l : List ℕ) → Chain n s cell l → length l ≤ left → Unmarked marks l → ⊥) → MarkTested n cell v left s marks marks false
   mark-fails h = record { size = refl; if-true = λ b. absurd (true≢false (sym b)); if-false = λ b. h }
 
-  module _ (f : next ≡ 0 → ⊥) where
+  module _ (f : next ≢ 0) where
     pub mark-long : left ≡ 0 → MarkTested n cell v left s marks marks false
     mark-long z = mark-fails λ l c h u. let g = ap length (leads c e f .split) in omega arith
 
     pub mark-beyond : n < next → MarkTested n cell v left s marks marks false
     mark-beyond z = mark-fails λ l c h u. let g = leads c e f .in-table in omega arith
 
-    pub mark-met : (getD marks next 0 ≡ 0 → ⊥) → MarkTested n cell v left s marks marks false
+    pub mark-met : getD marks next 0 ≢ 0 → MarkTested n cell v left s marks marks false
     mark-met z = mark-fails λ l c h u. z (u next (rw (leads c e f .split) (here refl)))
 
     pub mark-on : {marks' : List ℕ} {answer : Bool} → next ≤ n → getD marks next 0 ≡ 0 → 0 < left

@@ -1,4 +1,4 @@
--- A table whose cells all hold 0 has only empty chains.
+-- A table whose cells all hold 0 has only empty chains: every cell ends its chain.
 use mathlib.Core.Path.{_≡_, refl}
 use mathlib.Core.List.{List, [], List·Memᴰ·not-nil}
 use Prim.Native.Nat.{ℕ, suc, _+_, _<_}

@@ -1,6 +1,7 @@
--- The search for a number, chain by chain: it ends at the chain that has the number, or has passed all chains. By reading the cell at which the walk along one chain stops.
+-- The search for a number, chain by chain, finds its chain or passes all: by the cell at which the walk along one chain stops.
 use mathlib.Core.Path.{_≡_, sym, _∙_}
 use mathlib.Core.List.{List, [], List·Memᴰ as In}
+use mathlib.Core.Logic.{_≢_}
 use Prim.Native.Nat.{ℕ, _+_, _<_, _≤_}
 use native.Mathlib.Omega.{arith}
 use native.Mathlib.Decide.{ℕ-discrete, decLt}
@@ -52,7 +53,7 @@ module _ {n c k x : ℕ} {s : List ℕ} (a : HasChain n c k s) {at place : ℕ} 
       go (yes h) = rw (← q) (in-at 0 (getD (lists n c s) k []) place h)
       go (no f) = absurd (let z = List·getD-eq-default (getD (lists n c s) k []) 0 {n = place} (omega arith) in let y = q in omega arith)
 
-  pub not-below-more : (getD s at 0 ≡ x → ⊥) → NotBelow n c k x s → NotBelow n c (k + 1) x s
+  pub not-below-more : getD s at 0 ≢ x → NotBelow n c k x s → NotBelow n c (k + 1) x s
   not-below-more f b = record { positive = omega arith; in-reach = let h = a .high in omega arith; not-in = λ j h. at-chain j h (ℕ-discrete j k) }
     where
       not-here : In x (getD (lists n c s) k []) → ⊥

@@ -1,8 +1,8 @@
--- Which chain a number stands in, and how each change of one list moves it: by the fact that it stands in one list at most.
+-- Which chain a number stands in, and how each change of one list changes it: by the fact that it stands in one list at most.
 use mathlib.Core.Path.{_≡_, refl, sym, _∙_}
 use mathlib.Core.Bool.{Bool, true, false, cond}
 use mathlib.Core.List.{List, [], _∷_, List·Memᴰ as In, List·Memᴰ·not-nil}
-use mathlib.Core.Logic.{_⊎_, inl, inr, ⊎-elim}
+use mathlib.Core.Logic.{_≢_, _⊎_, inl, inr, ⊎-elim}
 use Prim.Native.Nat.{ℕ, zero, suc, _+_, _<_, _≤_}
 use native.Mathlib.Omega.{arith}
 use native.Mathlib.Decide.{ℕ-discrete}
@@ -72,14 +72,14 @@ module _ {n c k : ℕ} {s s' l : List ℕ} (a : HasChain n c k s) (d : Changed n
       let h = a .high in
       rw (d .lists-are) (getD-set-same (lists n c s) k l [] (omega arith))
 
-  pub other-list : (j : ℕ) → (j ≡ k → ⊥) → getD (lists n c s') j [] ≡ getD (lists n c s) j []
+  pub other-list : (j : ℕ) → j ≢ k → getD (lists n c s') j [] ≡ getD (lists n c s) j []
   other-list j f = rw (d .lists-are) (getD-set-other (lists n c s) k j l [] f)
 
   -- A list of the new table is the changed one, or another as it was.
-  in-new : (j : ℕ) {x : ℕ} → In x (getD (lists n c s') j []) → In x l ⊎ ((j ≡ k → ⊥) × In x (getD (lists n c s) j []))
+  in-new : (j : ℕ) {x : ℕ} → In x (getD (lists n c s') j []) → In x l ⊎ (j ≢ k × In x (getD (lists n c s) j []))
   in-new j {x} m = go (ℕ-discrete j k)
     where
-      go : Dec (j ≡ k) → In x l ⊎ ((j ≡ k → ⊥) × In x (getD (lists n c s) j []))
+      go : Dec (j ≡ k) → In x l ⊎ (j ≢ k × In x (getD (lists n c s) j []))
       go (yes e) = inl (rw (e, new-list) at m)
       go (no f) = inr (f, rw (other-list j f) at m)
 

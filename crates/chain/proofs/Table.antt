@@ -1,7 +1,7 @@
--- What holds of all chains of a table: the lists that it holds are those that are read, and a change of one chain's cells leaves the others. By the fact that no two chains share a cell.
+-- All chains of a table: what it holds is what is read, and a change of one chain leaves the others. By the fact that no two share a cell.
 use mathlib.Core.Path.{_≡_, refl, sym, ap, _∙_}
 use mathlib.Core.List.{List, [], _∷_, List·Memᴰ as In, List·Memᴰ·not-nil, Memᴰ·cast}
-use mathlib.Core.Logic.{_⊎_, inl, inr, ⊎-elim}
+use mathlib.Core.Logic.{_≢_, _⊎_, inl, inr, ⊎-elim}
 use Prim.Native.Nat.{ℕ, zero, suc, _+_, _<_, _≤_}
 use native.Mathlib.Omega.{arith}
 use native.Mathlib.Decide.{ℕ-discrete}
@@ -67,7 +67,7 @@ module _ {n c : ℕ} {s : List ℕ} {L : List (List ℕ)} (H : Holds n c s L) wh
   member-range k i = in-range (chain-at k i) i
 
   -- Two chains have no cell in common.
-  unlike : (j k : ℕ) {x y : ℕ} → (j ≡ k → ⊥) → 0 < j → 0 < k → CellOf n L k x → CellOf n L j y → y ≡ x → ⊥
+  unlike : (j k : ℕ) {x y : ℕ} → j ≢ k → 0 < j → 0 < k → CellOf n L k x → CellOf n L j y → y ≡ x → ⊥
   unlike j k f lo lo' (inl a) (inl b) e = f (omega arith)
   unlike j k f lo lo' (inl a) (inr b) e = let r = member-range j b in omega arith
   unlike j k f lo lo' (inr a) (inl b) e = let r = member-range k a in omega arith
@@ -75,8 +75,8 @@ module _ {n c : ℕ} {s : List ℕ} {L : List (List ℕ)} (H : Holds n c s L) wh
 
   -- One chain is another list now, and the cells of the others hold what they held.
   put : (k : ℕ) (s' l' : List ℕ) → 0 < k → k ≤ c → length s' ≡ length s → Chain n s' (n + k) l'
-      → ((j x : ℕ) → (j ≡ k → ⊥) → 0 < j → CellOf n L j x → getD s' x 0 ≡ getD s x 0)
-      → ((j x : ℕ) → (j ≡ k → ⊥) → In x l' → In x (getD L j []) → ⊥)
+      → ((j x : ℕ) → j ≢ k → 0 < j → CellOf n L j x → getD s' x 0 ≡ getD s x 0)
+      → ((j x : ℕ) → j ≢ k → In x l' → In x (getD L j []) → ⊥)
       → Holds n c s' (set L k l')
   put k s' l' lo hi size new keep apart' = record {
     room = record { cells-count = size ∙ H .room .cells-count; keys-fit = H .room .keys-fit; heads-fit = H .room .heads-fit };
@@ -89,7 +89,7 @@ module _ {n c : ℕ} {s : List ℕ} {L : List (List ℕ)} (H : Holds n c s L) wh
       there : getD (set L k l') k [] ≡ l'
       there = getD-set-same L k l' [] (let z = H .count in omega arith)
 
-      other : (j : ℕ) → (j ≡ k → ⊥) → getD (set L k l') j [] ≡ getD L j []
+      other : (j : ℕ) → j ≢ k → getD (set L k l') j [] ≡ getD L j []
       other j f = getD-set-other L k j l' [] f
 
       at : (j : ℕ) → 0 < j → j ≤ c → Dec (j ≡ k) → Chain n s' (n + j) (getD (set L k l') j [])
@@ -102,7 +102,7 @@ module _ {n c : ℕ} {s : List ℕ} {L : List (List ℕ)} (H : Holds n c s L) wh
       two j j' x a b (no f) (yes e) = absurd (apart' j x f (rw (e, there) at b) (rw (other j f) at a))
       two j j' x a b (no f) (no f') = H .apart (rw (other j f) at a) (rw (other j' f') at b)
 
-  -- The cell with i numbers up to it is one of its chain's.
+  -- The cell reached after i numbers is one of its chain's.
   pub cell-of : (k i : ℕ) → i ≤ length (getD L k []) → CellOf n L k (cell-at (n + k) (getD L k []) i)
   cell-of k zero h = inl refl
   cell-of k (suc i) h = inr (in-at 0 (getD L k []) i h)

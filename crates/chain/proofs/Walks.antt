@@ -2,6 +2,7 @@
 use mathlib.Core.Path.{_≡_, refl, sym, ap, _∙_}
 use mathlib.Core.Bool.{Bool, true, false, true≢false}
 use mathlib.Core.List.{List, [], _∷_}
+use mathlib.Core.Logic.{_≢_}
 use Prim.Native.Nat.{ℕ, suc, _+_, _<_, _≤_}
 use native.Mathlib.Numerals.{add-one}
 use native.Mathlib.Omega.{arith}
@@ -12,7 +13,7 @@ use Rattle.lists.specs.Lists.{ahead, passed, InOrder, no-key, next-key}
 use Rattle.lists.specs.Tests.{Whether, holds, fails}
 use Rattle.lists.proofs.Tests.{is-map}
 use Rattle.lists.proofs.Order.{in-order-least, in-order-most, in-order-rest}
-use Rattle.chain.specs.Table.{key-cells, follow, keys-of}
+use Rattle.chain.specs.Table.{key-cells, every-key, follow, keys-of}
 use Rattle.chain.specs.Walks.{Walk, Reached, Passes, Sought, Found}
 use Rattle.chain.proofs.Chain.{short, at-end, leads}
 
@@ -21,7 +22,7 @@ module _ {n cell : ℕ} {s : List ℕ} (w : Walk n cell s) {next : ℕ} (e : get
   pub stops : next ≡ 0 → follow n s cell ≡ []
   stops z = at-end (w .chain) (e ∙ z)
 
-  module _ (f : next ≡ 0 → ⊥) where
+  module _ (f : next ≢ 0) where
     pub splits : follow n s cell ≡ next ∷ follow n s next
     splits = leads (w .chain) e f .split
 
@@ -46,7 +47,7 @@ module _ {n head : ℕ} {s : List ℕ} {at place : ℕ} (r : Reached n head s at
   pub place-small : Walk n head s → place ≤ n
   place-small w = let a = r .place-fits in let b = short (w .chain) in omega arith
 
-  pub reached-next : {next : ℕ} → getD s at 0 ≡ next → (next ≡ 0 → ⊥) → Reached n head s next (place + 1)
+  pub reached-next : {next : ℕ} → getD s at 0 ≡ next → next ≢ 0 → Reached n head s next (place + 1)
   reached-next {next} e f =
       let l : List ℕ = follow n s head in
       let q : drop place l ≡ next ∷ follow n s next = r .left ∙ splits (r .walk) e f in
@@ -83,7 +84,7 @@ module _ {count : List ℕ → ℕ} {n head : ℕ} {s : List ℕ} {at place next
       let p : place + count [] ≡ count (follow n s head) = rw (stops (k .reached .walk) (k .next-is) e) at (k .counted) in
       omega arith
 
-  module _ (f : next ≡ 0 → ⊥) where
+  module _ (f : next ≢ 0) where
     counted-split : place + count (next ∷ follow n s next) ≡ count (follow n s head)
     counted-split = rw (splits (k .reached .walk) (k .next-is) f) at (k .counted)
 
@@ -115,7 +116,7 @@ module _ {key limit : ℕ} {answer : Bool} (p : Passes key limit answer) where
   pub passes-no : answer ≡ false → limit < key
   passes-no e = leb-false key limit (sym (p .answer-is) ∙ e)
 
-  pub passes-some : answer ≡ false → limit ≡ 255 → ⊥
+  pub passes-some : answer ≡ false → limit ≢ every-key
   passes-some e h = true≢false (sym (p .all h) ∙ e)
 
 -- The walk to a newcomer's place counts the keys that the limit passes.
@@ -130,8 +131,8 @@ module _ {n head limit : ℕ} {s : List ℕ} (key : List ℕ) {at place next : �
     at-the-end = λ h. reached-end (k .reached) (stops (k .reached .walk) (k .next-is) z);
   }
 
-  module _ (f : next ≡ 0 → ⊥) where
-    pub sought-stop : limit < getD key next 0 → (limit ≡ 255 → ⊥) → Sought n head limit s key at place
+  module _ (f : next ≢ 0) where
+    pub sought-stop : limit < getD key next 0 → limit ≢ every-key → Sought n head limit s key at place
     sought-stop h g = record {
       reached = k .reached;
       place-is = counted-stop k f (passed-stop key limit next (follow n s next) h);
@@ -147,7 +148,7 @@ module _ (t x : ℕ) (l : List ℕ) where
   unfolding ahead
   ahead-stop h = rw (eq-eqb x t h)
 
-  ahead-more : (x ≡ t → ⊥) → ahead t (x ∷ l) ≡ suc (ahead t l)
+  ahead-more : x ≢ t → ahead t (x ∷ l) ≡ suc (ahead t l)
   unfolding ahead
   ahead-more h = rw (ne-eqb x t h)
 
@@ -163,11 +164,11 @@ module _ {n head t : ℕ} {s : List ℕ} {at place next : ℕ} (k : Finding n he
   pub found-end : next ≡ 0 → Found n head t s at place
   found-end z = record { reached = k .reached; place-is = counted-end k (ahead-none t) z }
 
-  module _ (f : next ≡ 0 → ⊥) where
+  module _ (f : next ≢ 0) where
     pub found-here : next ≡ t → Found n head t s at place
     found-here h = record { reached = k .reached; place-is = counted-stop k f (ahead-stop t next (follow n s next) h) }
 
-    pub finding-next : {next' : ℕ} → (next ≡ t → ⊥) → getD s next 0 ≡ next' → Finding n head t s next (place + 1) next'
+    pub finding-next : {next' : ℕ} → next ≢ t → getD s next 0 ≡ next' → Finding n head t s next (place + 1) next'
     finding-next h = counting-next k f (ahead-more t next (follow n s next) h)
 
 -- The test of order, one step from a cell.
@@ -176,7 +177,7 @@ module _ {n cell : ℕ} {s : List ℕ} (w : Walk n cell s) {next : ℕ} (e : get
   unfolding keys-of
   order-end z = rw (stops w e z) (holds no-key)
 
-  module _ (f : next ≡ 0 → ⊥) where
+  module _ (f : next ≢ 0) where
     pub order-low : getD key next 0 < least → Whether (InOrder least most (keys-of key (follow n s cell))) false
     unfolding keys-of
     order-low h = rw (splits w e f) (fails (λ o. let b = in-order-least o in omega arith))

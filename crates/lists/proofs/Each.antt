@@ -2,6 +2,7 @@
 use mathlib.Core.Path.{_≡_}
 use mathlib.Core.Bool.{not}
 use mathlib.Core.List.{List, [], _∷_, _++_, tail, headD, cons≢nil}
+use mathlib.Core.Logic.{_≢_}
 use Prim.Native.Nat.{ℕ, zero, suc}
 use lib.Dec.{T}
 use lib.ListN.{take, drop}
@@ -53,6 +54,6 @@ each-of-all h [] = none
 each-of-all h (x ∷ xs) = both (h x) (each-of-all h xs)
 
 -- What holds where there is an element holds beside each element.
-pub each-beside : {X P : Type 0} {Q : X → Type 0} (l : List X) → ((l ≡ [] → ⊥) → P) → Each Q l → Each (λ x. P × Q x) l
+pub each-beside : {X P : Type 0} {Q : X → Type 0} (l : List X) → (l ≢ [] → P) → Each Q l → Each (λ x. P × Q x) l
 each-beside l h none = none
 each-beside {P = P} l h (both q e) = let p : P = h cons≢nil in both (p, q) (each-map (λ x r. (p, r)) e)

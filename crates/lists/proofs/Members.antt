@@ -1,7 +1,7 @@
 -- Which elements a list has after one is put in or taken out, and how membership is decided: by the library's cases of membership.
 use mathlib.Core.Path.{_≡_, refl}
 use mathlib.Core.List.{List, [], _∷_, List·Memᴰ as In, List·Memᴰ·head as here, List·Memᴰ·tail as there, List·Memᴰ·not-nil, List·Memᴰ·cases-cons, List·Memᴰ·append-cases, Memᴰ·append-left, Memᴰ·append-right}
-use mathlib.Core.Logic.{_⊎_, inl, inr, ⊎-elim}
+use mathlib.Core.Logic.{_≢_, _⊎_, inl, inr, ⊎-elim}
 use Prim.Native.Nat.{ℕ, zero, suc, _<_}
 use native.Mathlib.Nat.{le-of-suc-le-suc, not-suc-le-zero}
 use lib.ListN.{length, getD, take, drop, take-append-drop}
@@ -45,7 +45,7 @@ module _ {X : Type 0} where
   in-remove-old n l m = ⊎-elim (in-take n l) (in-drop (suc n) l) (List·Memᴰ·append-cases (take n l) m)
 
   -- Whatever is another element than the one taken out stays.
-  pub in-remove-other : (d : X) (n : ℕ) {y : X} {l : List X} → (y ≡ getD l n d → ⊥) → In y l → In y (remove-at n l)
+  pub in-remove-other : (d : X) (n : ℕ) {y : X} {l : List X} → y ≢ getD l n d → In y l → In y (remove-at n l)
   unfolding remove-at
   in-remove-other d zero f (here e) = absurd (f e)
   in-remove-other d zero f (there m) = m

@@ -23,12 +23,12 @@ insert-at-end x l = rw (take-length, drop-length)
 
 pub in-order-insert : {least most : ℕ} (key : ℕ) {keys : List ℕ} → least ≤ key → key ≤ most → InOrder least most keys → InOrder least most (insert-at (passed key keys) key keys)
 unfolding passed insert-at
-in-order-insert key l m no-key = next-key l m no-key
-in-order-insert {least} {most} key l m (next-key {key = k} {keys = ks} lo hi o) = go (leb k key) refl (λ h. in-order-insert key h m o)
+in-order-insert key low high no-key = next-key low high no-key
+in-order-insert {least} {most} key low high (next-key {key = k} {keys = ks} lo hi o) = go (leb k key) refl (λ h. in-order-insert key h high o)
   where
     go : (b : Bool) → leb k key ≡ b → (k ≤ key → InOrder k most (insert-at (passed key ks) key ks)) → InOrder least most (insert-at (cond b (suc (passed key ks)) 0) key (k ∷ ks))
     go true e r = next-key lo hi (r (leb-true k key e))
-    go false e r = next-key l m (next-key (le-of-lt (leb-false k key e)) hi o)
+    go false e r = next-key low high (next-key (le-of-lt (leb-false k key e)) hi o)
 
 -- A smaller least asks less.
 in-order-from : {least least' most : ℕ} {keys : List ℕ} → least ≤ least' → InOrder least' most keys → InOrder least most keys

@@ -75,7 +75,7 @@ map-remove f zero (y ∷ l) = refl
 map-remove f (suc n) [] = refl
 map-remove f (suc n) (y ∷ l) = ap (λ r. f y ∷ r) (map-remove f n l)
 
--- A list of one element, many times over, with that element beyond its end.
+-- In a list of one element repeated, every place reads as that element, beyond the end too if it is the default.
 pub all-same : {X : Type 0} (d : X) (count k : ℕ) → getD (replicate count d) k d ≡ d
 all-same d zero k = refl
 all-same d (suc count) zero = refl

@@ -1,4 +1,4 @@
--- `find` stops ahead of the number, or at the end. The invariant: those passed and those still ahead of the number make the place. What is left of the chain gets shorter.
+-- `find` stops ahead of the number, or at the end. The invariant: numbers passed and numbers still ahead of it make the place.
 use mathlib.Core.Path.{refl}
 use native.Mathlib.Omega.{arith}
 use lib.ListN.{length}

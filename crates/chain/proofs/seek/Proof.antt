@@ -1,4 +1,4 @@
--- `seek` stops behind the last key that the limit passes. The invariant: what is passed and what is still to be passed make the place. What is left of the chain gets shorter.
+-- `seek` stops behind the last key that the limit passes. The invariant: keys passed and keys still to be passed make the place.
 use mathlib.Core.Path.{sym}
 use native.Mathlib.Omega.{arith}
 use lib.ListN.{length}
