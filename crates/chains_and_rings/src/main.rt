@@ -297,7 +297,7 @@ fn show_soundness(link: &[u8; CELLS])
     let without_end = with_cell(link, 32, 3);
     let in_two_chains = with_cell(link, 34, 3);
     let beyond_table = with_cell(link, 32, 33);
-    print(b"Whether the table sound?\n");
+    print(b"Is the table sound?\n");
     print(b"  as it is:                                   ");
     print_soundness(link);
     print(b"  task 3 behind task 32: chain 1 has no end:  ");
