@@ -7,7 +7,9 @@ use native.Mathlib.Omega.{arith}
 use lib.ListN.{length, getD, set}
 use lib.Seq.{set-getD}
 use Rattle.lists.specs.Lists.{remove-at, without, ahead}
-use Rattle.lists.proofs.Places.{at-ahead, ahead-in, first-at, remove-first}
+use Rattle.lists.proofs.Reading.{first-at}
+use Rattle.lists.proofs.Changes.{remove-first}
+use Rattle.lists.proofs.Places.{at-ahead, ahead-in}
 use Rattle.chain.specs.Table.{cells, follow, lists, chain-of, Chain, Holds}
 use Rattle.chain.specs.Walks.{Walk, Reached, Sought, Found}
 use Rattle.chain.specs.Changes.{HasChain, Changed, Insertable, Inserted, Popped, Removed}

@@ -9,3 +9,4 @@ pub mod Changes
 pub mod Search
 pub mod Marks
 pub mod Laws
+pub mod Order

@@ -10,7 +10,7 @@ use lib.ListN.{length, getD, set, length-set, replicate}
 use lib.Seq.{getD-set-same, getD-set-other}
 use Rattle.lists.specs.Tests.{Whether, holds, fails}
 use Rattle.lists.proofs.Members.{is-one-of}
-use Rattle.lists.proofs.Places.{all-same}
+use Rattle.lists.proofs.Reading.{all-same}
 use Rattle.chain.specs.Table.{key-cells, follow, lists, chain-of, Chain, ends, goes-on, Room, Sound}
 use Rattle.chain.specs.Walks.{Marking, Unmarked, mark-all, Marked, MarkTested}
 use Rattle.chain.specs.Changes.{Tested}

@@ -3,7 +3,7 @@ use mathlib.Core.Path.{_≡_, refl}
 use mathlib.Core.List.{List, [], List·Memᴰ·not-nil}
 use Prim.Native.Nat.{ℕ, suc, _+_, _<_}
 use lib.ListN.{replicate, length-replicate}
-use Rattle.lists.proofs.Places.{all-same}
+use Rattle.lists.proofs.Reading.{all-same}
 use Rattle.chain.specs.Table.{cells, key-cells, lists, ends, Holds, Sound}
 use Rattle.chain.proofs.Table.{lists-are}
 

@@ -20,11 +20,10 @@ use Rattle.chain.proofs.Changes.{chain-is, list-is, reached-place, reac
 -- The number stands in none of the chains below k.
 pub record NotBelow (n c k x : ℕ) (s : List ℕ) : Type 0 where
   pub positive : 0 < k
-  pub in-reach : k ≤ c + 1
   pub not-in : (j : ℕ) → j < k → In x (getD (lists n c s) j []) → ⊥
 
 pub not-below-one : {n c x : ℕ} {s : List ℕ} → Sound n c s → NotBelow n c 1 x s
-not-below-one H = record { positive = omega arith; in-reach = omega arith; not-in = λ j h i. let b = chain-has H j i in omega arith }
+not-below-one H = record { positive = omega arith; not-in = λ j h i. let b = chain-has H j i in omega arith }
 
 -- The next chain is one of the table's.
 pub next-chain : {n c k x : ℕ} {s : List ℕ} → Sound n c s → NotBelow n c k x s → k ≤ c → HasChain n c k s
@@ -54,7 +53,7 @@ module _ {n c k x : ℕ} {s : List ℕ} (a : HasChain n c k s) {at place : ℕ} 
       go (no f) = absurd (let z = List·getD-eq-default (getD (lists n c s) k []) 0 {n = place} (omega arith) in let y = q in omega arith)
 
   pub not-below-more : getD s at 0 ≢ x → NotBelow n c k x s → NotBelow n c (k + 1) x s
-  not-below-more f b = record { positive = omega arith; in-reach = let h = a .high in omega arith; not-in = λ j h. at-chain j h (ℕ-discrete j k) }
+  not-below-more f b = record { positive = omega arith; not-in = λ j h. at-chain j h (ℕ-discrete j k) }
     where
       not-here : In x (getD (lists n c s) k []) → ⊥
       not-here i =

@@ -34,7 +34,7 @@ pub record Insertable (numbers chains chain number : ℕ) (link key : List ℕ) 
   pub free : chain-of number (lists numbers chains link) ≡ 0
   pub keys-count : length key ≡ key-cells
 
--- The place is how many numbers at the head of the chain have a key of at most the limit, which are those that stay ahead.
+-- "Place" is document 01's word: how many stay ahead. Here they are the numbers at the head of the chain whose key is at most the limit.
 pub record Inserted (numbers chains chain number limit : ℕ) (link key link' : List ℕ) (place : ℕ) : Type 0 where
   pub place-is : place ≡ passed limit (keys-of key (getD (lists numbers chains link) chain []))
   pub at-the-end : limit ≡ every-key → place ≡ length (getD (lists numbers chains link) chain [])
@@ -55,8 +55,8 @@ pub record StandsIn (numbers chains number : ℕ) (link : List ℕ) (chain : ℕ
   pub chain-is : chain ≡ chain-of number (lists numbers chains link)
   pub high : chain ≤ chains
 
--- The answer says whether the table is sound. If it is, `standing` has for each number the chain that it stands in, 0 for none. If it isn't, `standing` has
--- zeros, as it was lent.
+-- The answer says whether the table is sound. If it is, `standing` has for each number the chain that it stands in, 0 for none. If it isn't,
+-- `standing` has zeros, as it was lent.
 pub record Tested (numbers chains : ℕ) (link standing : List ℕ) (answer : Bool) : Type 0 where
   pub exact : Whether (Sound numbers chains link) answer
   pub size : length standing ≡ key-cells

@@ -1,6 +1,8 @@
 pub mod Each
 pub mod Positions
+pub mod Reading
 pub mod Ascending
+pub mod Changes
 pub mod Places
 pub mod Tests
 pub mod Members

@@ -1,12 +1,11 @@
 -- A queue by key stays in order when a newcomer goes behind all of equal or smaller key, and when an element leaves: by induction on the order.
 use mathlib.Core.Path.{_≡_, refl}
 use mathlib.Core.Bool.{Bool, true, false, cond}
-use mathlib.Core.List.{List, [], _∷_, _++_}
+use mathlib.Core.List.{List, _∷_}
 use Prim.Native.Nat.{ℕ, zero, suc, _≤_}
 use native.Mathlib.Nat.{le-trans, le-of-lt}
 use lib.Dec.{leb}
 use lib.ListN.{length}
-use lib.Seq.{take-length, drop-length}
 use borrow.Author.Tests.{le-leb, leb-true, leb-false}
 use Rattle.lists.specs.Lists.{Each, none, both, InOrder, no-key, next-key, insert-at, remove-at, passed}
 
@@ -15,11 +14,6 @@ pub passed-all : {limit : ℕ} {keys : List ℕ} → Each (λ key. key ≤ limit
 unfolding passed
 passed-all none = refl
 passed-all {limit} (both {x = key} h e) = rw (le-leb key limit h, passed-all e)
-
--- What goes behind all is appended.
-pub insert-at-end : {X : Type 0} (x : X) (l : List X) → insert-at (length l) x l ≡ l ++ x ∷ []
-unfolding insert-at
-insert-at-end x l = rw (take-length, drop-length)
 
 pub in-order-insert : {least most : ℕ} (key : ℕ) {keys : List ℕ} → least ≤ key → key ≤ most → InOrder least most keys → InOrder least most (insert-at (passed key keys) key keys)
 unfolding passed insert-at
