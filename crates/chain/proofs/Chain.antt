@@ -7,9 +7,9 @@ use native.Mathlib.Omega.{arith}
 use native.Mathlib.Nat.{le-of-suc-le-suc}
 use lib.ListN.{length, getD, set, length-set}
 use lib.Seq.{getD-set-same, getD-set-other}
-use Rattle.lists.specs.Lists.{insert-at, remove-at}
+use Rattle.lists.specs.Lists.{Once, nothing, once, insert-at, remove-at}
 use Rattle.lists.proofs.Members.{in-at}
-use Rattle.lists.proofs.Once.{Once, nothing, once, bounded}
+use Rattle.lists.proofs.Once.{bounded}
 use Rattle.chain.specs.Table.{cells, key-cells, from-number, follow, Chain, ends, goes-on}
 
 -- A number of a chain is one of the table's.

@@ -7,11 +7,11 @@ use Prim.Native.Nat.{ℕ, suc, _<_, _≤_}
 use native.Mathlib.Omega.{arith}
 use lib.Dec.{eqb}
 use lib.ListN.{length, getD, length-map}
-use Rattle.lists.specs.Lists.{remove-at, ahead, without}
+use Rattle.lists.specs.Lists.{Once, remove-at, ahead, without}
 use Rattle.lists.specs.Tests.{Whether, holds, fails}
 use Rattle.lists.proofs.Tests.{is-eqb}
 use Rattle.lists.proofs.Members.{in-at, in-inserted, in-insert-old, in-insert-cases, in-remove-old, in-remove-other}
-use Rattle.lists.proofs.Once.{Once, once-removed}
+use Rattle.lists.proofs.Once.{once-removed}
 use Rattle.lists.proofs.Reading.{first-at}
 use Rattle.lists.proofs.Changes.{remove-first, length-insert, insert-at-end}
 use Rattle.lists.proofs.Places.{at-ahead, ahead-in, passed-within}

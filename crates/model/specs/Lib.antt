@@ -13,3 +13,4 @@ pub mod Step
 pub mod Refusals
 pub mod Isolation
 pub mod SixteenRuns
+pub mod WellFormed

@@ -1,0 +1,159 @@
+-- Document 01, "A sound record": its sentences, over rows. What a record must be so that it has such rows (chains that end, rings in range) stands with the record.
+use mathlib.Core.Path.{_≡_}
+use mathlib.Core.Bool.{Bool, true, false, not, cond}
+use mathlib.Core.List.{List, [], map}
+use mathlib.Core.Option.{Option, none, some}
+use Prim.Native.Nat.{ℕ, _+_, _-_, _%_, _<_, _≤_}
+use lib.Dec.{T, eqb}
+use lib.ListN.{length}
+use Rattle.lists.specs.Lists.{empty, InOrder, StandsWhereNamed}
+use Rattle.rows.specs.Program as Program
+use Rattle.model.specs.Sizes.{capacity-limit, priority-limit, tmout-limit, counter-span}
+use Rattle.model.specs.Rows.{Key, task, suspension, queue, mailbox, message, valid, Row, TaskRow, QueueRow, MailboxRow, MessageRow, Model, senders-by-priority, waiters-by-priority, messages-by-priority, nothing, empty-state}
+use Rattle.model.specs.Codes.{Code, E-OK, E-SYS, E-PAR, E-ID, E-CTX, E-ILUSE, E-OBJ, E-NOEXS, E-QOVR, E-RLWAI, E-TMOUT, E-DLT}
+use Rattle.model.specs.Calls.{Call}
+use Rattle.model.specs.Waits.{Wait, NoWait, Sending, Receiving, AtMailbox, End, Never, At, wait-end}
+use Rattle.model.specs.Step.{step}
+use Rattle.model.specs.Isolation.{Linked}
+
+-- ── Wait queues ──
+
+-- The senders or the receivers of a data queue, or the waiters of a mailbox.
+pub data WaitQueue : Type 0 where
+  senders-of receivers-of waiters-of : ℕ → WaitQueue
+  deriving Discrete as WaitQueue-discrete
+
+-- The tasks that stand in it, head first.
+abbrev pub standing-in : Program.Rows Row → WaitQueue → List ℕ
+standing-in m (senders-of q) = m (queue q) .senders
+standing-in m (receivers-of q) = m (queue q) .receivers
+standing-in m (waiters-of b) = m (mailbox b) .waiters
+
+-- Whether it goes by task priority.
+abbrev pub by-priority : Program.Rows Row → WaitQueue → Bool
+by-priority m (senders-of q) = senders-by-priority (m (queue q) .attribute)
+by-priority m (receivers-of q) = false
+by-priority m (waiters-of b) = waiters-by-priority (m (mailbox b) .attribute)
+
+-- The wait queue of the object and kind that a wait names.
+abbrev pub wait-queue : Wait → Option WaitQueue
+wait-queue NoWait = none
+wait-queue (Sending q end word) = some (senders-of q)
+wait-queue (Receiving q end) = some (receivers-of q)
+wait-queue (AtMailbox b end) = some (waiters-of b)
+
+-- The mailbox that a message's row names.
+abbrev pub named-mailbox : MessageRow → Option ℕ
+named-mailbox x = cond (eqb (x .queued-in) 0) none (some (x .queued-in))
+
+-- ── A task by itself ──
+
+-- Numbers are in range: the object that a wait names.
+abbrev pub ObjectInRange : Wait → Type 0
+ObjectInRange NoWait = Unit
+ObjectInRange (Sending q end word) = T (valid (queue q))
+ObjectInRange (Receiving q end) = T (valid (queue q))
+ObjectInRange (AtMailbox b end) = T (valid (mailbox b))
+
+-- A stored code is that of a wait that ended, or E_OK: 0, -49, -50 or -51.
+abbrev pub ends-a-wait : Code → Bool
+ends-a-wait E-OK = true
+ends-a-wait E-SYS = false
+ends-a-wait E-PAR = false
+ends-a-wait E-ID = false
+ends-a-wait E-CTX = false
+ends-a-wait E-ILUSE = false
+ends-a-wait E-OBJ = false
+ends-a-wait E-NOEXS = false
+ends-a-wait E-QOVR = false
+ends-a-wait E-RLWAI = true
+ends-a-wait E-TMOUT = true
+ends-a-wait E-DLT = true
+
+-- How many ticks bring the counter to this tick, modulo the counter's span.
+abbrev pub ticks-left : ℕ → ℕ → ℕ
+ticks-left counter tick = (tick + (counter-span - counter)) % counter-span
+
+-- An end tick is from `soonest` to 2,147,483,646 ticks away.
+pub record TickAhead (counter soonest tick : ℕ) : Type 0 where
+  pub in-range : tick < counter-span
+  pub not-sooner : soonest ≤ ticks-left counter tick
+  pub not-later : ticks-left counter tick ≤ tmout-limit
+
+abbrev pub EndAhead : ℕ → ℕ → End → Type 0
+EndAhead counter soonest Never = Unit
+EndAhead counter soonest (At tick) = TickAhead counter soonest tick
+
+pub record TaskWellFormed (counter soonest : ℕ) (x : TaskRow) : Type 0 where
+  -- An undefined task has no wait.
+  pub undefined : T (not (x .defined)) → x .wait ≡ NoWait
+  -- Numbers are in range.
+  pub priority-in-range : T (x .defined) → (1 ≤ x .priority) × (x .priority ≤ priority-limit)
+  pub object-in-range : ObjectInRange (x .wait)
+  -- A stored code is one of four.
+  pub code : T (ends-a-wait (x .code))
+  -- An end tick is 1 to 2,147,483,646 ticks away.
+  pub end : EndAhead counter soonest (wait-end (x .wait))
+
+-- ── A data queue by itself ──
+
+pub record QueueWellFormed (x : QueueRow) : Type 0 where
+  -- An undefined object has empty chains and no words.
+  pub undefined : T (not (x .defined)) → (x .words ≡ []) × (x .senders ≡ []) × (x .receivers ≡ [])
+  -- Numbers and attributes are in range.
+  pub attribute-in-range : x .attribute ≤ 1
+  pub capacity-in-range : x .capacity ≤ capacity-limit
+  -- The stored count is at most the capacity.
+  pub count : length (x .words) ≤ x .capacity
+  -- Senders wait only at a full queue with no receiver.
+  pub senders : T (not (empty (x .senders))) → (length (x .words) ≡ x .capacity) × (x .receivers ≡ [])
+  -- Receivers wait only at an empty queue with no sender.
+  pub receivers : T (not (empty (x .receivers))) → (x .words ≡ []) × (x .senders ≡ [])
+
+-- ── A mailbox by itself ──
+
+pub record MailboxWellFormed (x : MailboxRow) : Type 0 where
+  -- An undefined object has empty chains.
+  pub undefined : T (not (x .defined)) → (x .waiters ≡ []) × (x .messages ≡ [])
+  -- Numbers and attributes are in range; the highest message priority is kept with attribute 2 or 3 alone.
+  pub attribute-in-range : x .attribute ≤ 3
+  pub highest-in-range : T (messages-by-priority (x .attribute)) → (1 ≤ x .highest) × (x .highest ≤ priority-limit)
+  -- Tasks wait only at an empty mailbox.
+  pub waiters : T (not (empty (x .waiters))) → x .messages ≡ []
+
+-- ── All rows ──
+
+-- `soonest` says for each task how many ticks its end tick is away at least. It is 1; within a tick it is 0 for the tasks whose turn is still to come.
+pub record WellFormedRows (counter : ℕ) (soonest : ℕ → ℕ) (m : Program.Rows Row) : Type 0 where
+  -- Numbers are in range: nothing stands beyond the limits.
+  pub in-range : (k : Key) → T (not (valid k)) → m k ≡ nothing k
+  pub tasks : (t : ℕ) → TaskWellFormed counter (soonest t) (m (task t))
+  -- An undefined task has no suspension.
+  pub suspensions : (t : ℕ) → T (m (suspension t)) → T (m (task t) .defined)
+  pub queues : (q : ℕ) → QueueWellFormed (m (queue q))
+  pub mailboxes : (b : ℕ) → MailboxWellFormed (m (mailbox b))
+  -- Every waiting task stands once in the wait queue of the object and kind that it names, and nowhere else; wait queues hold no other task.
+  pub waiting : StandsWhereNamed (standing-in m) (λ t. wait-queue (m (task t) .wait))
+  -- A wait queue by priority has no larger number before a smaller.
+  pub waiting-in-order : (k : WaitQueue) → T (by-priority m k) → InOrder 1 priority-limit (map (λ t. m (task t) .priority) (standing-in m k))
+  -- A message stands in at most one mailbox, once.
+  pub queued : StandsWhereNamed (λ b. m (mailbox b) .messages) (λ g. named-mailbox (m (message g)))
+  -- A message queue by priority has no larger number before a smaller, and each kept priority is 1 to its mailbox's highest.
+  pub queued-in-order : (b : ℕ) → T (messages-by-priority (m (mailbox b) .attribute)) → InOrder 1 (m (mailbox b) .highest) (map (λ g. m (message g) .priority) (m (mailbox b) .messages))
+
+pub record WellFormed (m : Model) : Type 0 where
+  pub counter-in-range : m .environment .counter < counter-span
+  pub rows : WellFormedRows (m .environment .counter) (λ t. 1) (m .rows)
+
+-- ── Statements ──
+
+-- Every call, accepted or refused, of known or unknown number, and the tick keep a model well-formed.
+abbrev pub KeptWellFormed : Type 0
+KeptWellFormed = (m : Model) (c : Call) → WellFormed m → WellFormed (step m c .state)
+
+abbrev pub EmptyWellFormed : Type 0
+EmptyWellFormed = (counter : ℕ) → counter < counter-span → WellFormed (empty-state counter)
+
+-- It is all that demand 3 asks of the state.
+abbrev pub WellFormedLinked : Type 0
+WellFormedLinked = (m : Model) → WellFormed m → Linked (m .rows)
