@@ -1,0 +1,121 @@
+// The kernel's state as one record, and the test whether it is sound.
+ghost use mathlib.Core.Path.{_≡_};
+ghost use Prim.Native.Nat.{_<_};
+ghost use lib.ListN.{getD};
+ghost use Rattle.lists.specs.Tests.{Whether};
+ghost use Rattle.model.specs.Rows.{empty-state};
+ghost use Rattle.kernel.specs.Meaning.{abs};
+ghost use Rattle.kernel.specs.Sound.{Sound};
+use chain::Chains;
+use chain::KEY_CELLS;
+use model::Code;
+use model::Wait;
+use parts::MESSAGE_CHAINS;
+use parts::MESSAGES;
+use parts::Mailbox;
+use parts::Queue;
+use parts::TASK_CHAINS;
+use parts::TASKS;
+use parts::Task;
+use ring::Ring;
+
+// Cell n of each array belongs to number n; cell 0 is nobody's and never counts. A task's record is its cells in `tasks` and `waiting`, a message's those in
+// `messages`.
+pub struct State {
+    pub counter: u32,
+    pub tasks: [Task; 33],
+    // The wait queues; the keys are the tasks' priorities.
+    pub waiting: Chains,
+    pub queues: [Queue; 17],
+    pub mailboxes: [Mailbox; 17],
+    // The messages queued in each mailbox; the keys are the priorities kept with them.
+    pub messages: Chains,
+}
+
+// A task's priority.
+fn key_of(key: &[u8; KEY_CELLS], number: usize) -> u8
+    requires { ⌜ number < 65 ⌝ }
+    ensures { λ r. ⌜ r ≡ getD (now (key .entry)) number 0 ⌝ }
+{
+    key[number]
+}
+
+impl State {
+    // The state in which nothing is defined, at counter 0.
+    pub fn empty() -> State
+        ensures { λ r. ⌜ Sound r × (abs r ≡ empty-state 0) ⌝ }
+    {
+        let task = Task {
+            defined: false,
+            suspended: false,
+            wait: Wait::NoWait,
+            code: Code::Ok,
+            word: 0,
+        };
+        let ring = Ring::new(0);
+        let queue = Queue {
+            defined: false,
+            attribute: 0,
+            ring,
+        };
+        let mailbox = Mailbox {
+            defined: false,
+            attribute: 0,
+            highest: 0,
+        };
+        let waiting = Chains::new();
+        let messages = Chains::new();
+        State {
+            counter: 0,
+            tasks: [task; 33],
+            waiting,
+            queues: [queue; 17],
+            mailboxes: [mailbox; 17],
+            messages,
+        }
+    }
+
+    // Whether the record is sound, whatever it holds.
+    pub fn sound(self) -> bool
+        ensures { λ r. ⌜ Whether (Sound self) r ⌝ }
+    {
+        let mut standing = [0u8; KEY_CELLS];
+        if !chain::sound(&self.waiting.link, TASKS, TASK_CHAINS, &mut standing) {
+            return false;
+        }
+        let mut queued = [0u8; KEY_CELLS];
+        if !chain::sound(&self.messages.link, MESSAGES, MESSAGE_CHAINS, &mut queued) {
+            return false;
+        }
+        let counter = self.counter;
+        let mut t: usize = 1;
+        while t < 33 {
+            let task = self.tasks[t];
+            let priority = key_of(&self.waiting.key, t);
+            if !parts::task_sound(task, priority, standing[t], counter) {
+                return false;
+            }
+            t += 1;
+        }
+        let mut n: usize = 1;
+        while n < 17 {
+            let queue = self.queues[n];
+            if !parts::queue_sound(queue, &self.waiting.link, &self.waiting.key, n) {
+                return false;
+            }
+            let mailbox = self.mailboxes[n];
+            if !parts::mailbox_sound(
+                mailbox,
+                &self.waiting.link,
+                &self.waiting.key,
+                &self.messages.link,
+                &self.messages.key,
+                n,
+            ) {
+                return false;
+            }
+            n += 1;
+        }
+        true
+    }
+}

@@ -1,0 +1,35 @@
+-- Whose each chain of the record's two tables is. It is decided here alone: 48 chains of the 32 tasks and 16 chains of the 64 messages.
+use mathlib.Core.List.{List, []}
+use Prim.Native.Nat.{ℕ, _+_}
+use lib.ListN.{getD}
+use Rattle.chain.specs.Table.{lists}
+use Rattle.model.specs.Sizes.{task-limit, message-limit}
+use Rattle.model.specs.declared.Wait.{Wait}
+use Rattle.model.specs.declared.Wait.the-variants.{NoWait, Sending, Receiving, AtMailbox}
+use Rattle.model.specs.WellFormed.{WaitQueue, senders-of, receivers-of, waiters-of}
+
+abbrev pub task-chains : ℕ
+task-chains = 48
+
+abbrev pub message-chains : ℕ
+message-chains = 16
+
+-- The chain of a wait queue: first the senders of each data queue, then the receivers, then the waiters of each mailbox.
+abbrev pub chain-number : WaitQueue → ℕ
+chain-number (senders-of q) = q
+chain-number (receivers-of q) = 16 + q
+chain-number (waiters-of b) = 32 + b
+
+-- The chain that a wait names, 0 for none.
+abbrev pub wait-chain : Wait → ℕ
+wait-chain NoWait = 0
+wait-chain (Sending q end word) = chain-number (senders-of q)
+wait-chain (Receiving q end) = chain-number (receivers-of q)
+wait-chain (AtMailbox b end) = chain-number (waiters-of b)
+
+-- The tasks in a wait queue, and the messages in a mailbox: chain b is mailbox b's.
+unfoldable pub tasks-in : List ℕ → WaitQueue → List ℕ
+tasks-in link k = getD (lists task-limit task-chains link) (chain-number k) []
+
+unfoldable pub messages-in : List ℕ → ℕ → List ℕ
+messages-in link b = getD (lists message-limit message-chains link) b []

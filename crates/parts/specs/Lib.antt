@@ -1,0 +1,4 @@
+pub mod Chains
+pub mod Tasks
+pub mod Queues
+pub mod Mailboxes
