@@ -1,1 +1,4 @@
 pub mod Tasks
+pub mod Lists
+pub mod Queues
+pub mod Mailboxes

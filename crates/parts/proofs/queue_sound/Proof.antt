@@ -1,0 +1,54 @@
+-- `queue_sound` is exact: its tests are, and they say what `QueueSound` says of a defined queue, and of an undefined one.
+use borrow.Author.Needs.{needs}
+use Rattle.lists.proofs.Tests.{is-and, is-leb, is-eqb}
+use Rattle.parts.proofs.Queues.{senders-chain, defined-queue, undefined-queue}
+use Rattle.parts.proofs.queue_sound.Statement.{statement}
+use Rattle.parts.proofs.queue_sound.Tie as tie
+
+first-requires : tie.Need-first-requires
+first-requires c κs = search needs
+
+add-first : tie.Need-add-first
+add-first c = search needs
+
+first-requires-2 : tie.Need-first-requires-2
+first-requires-2 c κs = search needs
+
+in-range-requires : tie.Need-in-range-requires
+in-range-requires c κs = search needs
+
+waits-sound-requires : tie.Need-waits-sound-requires
+waits-sound-requires c κs = search needs
+
+in-order-if-requires : tie.Need-in-order-if-requires
+in-order-if-requires c κs =
+    let testable = c .before .before .before .before .before .pre in
+    (senders-chain testable, testable .keys-count)
+
+returns : tie.Need-returns
+returns c =
+    let taken = c .before .before .before in
+    let heads = taken .before in
+    let start = heads .before .before in
+    defined-queue (start .args .queue) (start .pre) (heads .before .first .ensures) (heads .first2 .ensures) (taken .if1 .taken)
+    (is-and (is-and (is-and (is-leb _ _) (c .before .before .in-range .ensures)) (c .before .waits-sound .ensures)) (c .in-order-if .ensures))
+
+returns-2 : tie.Need-returns-2
+returns-2 c =
+    let heads = c .before in
+    let start = heads .before .before in
+    undefined-queue (start .args .queue) (start .pre) (heads .before .first .ensures) (heads .first2 .ensures) (c .if1 .left)
+    (is-and (is-and (is-eqb _ _) (is-eqb _ _)) (is-eqb _ _))
+
+pub queue-sound-spec : {M : Type 1} → statement M
+queue-sound-spec =
+    tie.close
+    (tie.spec
+    first-requires
+    add-first
+    first-requires-2
+    in-range-requires
+    waits-sound-requires
+    in-order-if-requires
+    returns
+    returns-2)
