@@ -1,4 +1,4 @@
 pub mod Tasks
-pub mod Lists
+pub mod Empty
 pub mod Queues
 pub mod Mailboxes

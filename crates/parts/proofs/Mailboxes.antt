@@ -1,6 +1,6 @@
 -- A mailbox's test says what `MailboxSound` says: waiters and messages as lists are read off the heads of their chains, and each attribute from 0 to 3 is looked at.
 use mathlib.Core.Path.{_≡_, refl, sym, _∙_}
-use mathlib.Core.Bool.{Bool, true, false, cond, _||_}
+use mathlib.Core.Bool.{Bool, true, false, cond, _&&_, _||_}
 use mathlib.Core.List.{List, [], headD}
 use mathlib.Core.Logic.{_⊎_, inl, inr, ⊎-elim}
 use Prim.Native.Nat.{ℕ, zero, suc, _+_, _<_, _≤_, zero-le}
@@ -10,7 +10,7 @@ use lib.ListN.{getD}
 use borrow.Author.Tests.{leb-false}
 use Rattle.lists.specs.Lists.{InOrder, one-of}
 use Rattle.lists.specs.Tests.{Whether}
-use Rattle.lists.proofs.Tests.{is-map}
+use Rattle.lists.proofs.Tests.{is-map, is-and}
 use Rattle.chain.specs.Table.{lists, keys-of}
 use Rattle.chain.specs.Changes.{HasChain}
 use Rattle.model.specs.Sizes.{task-limit, message-limit, priority-limit}
@@ -18,7 +18,7 @@ use Rattle.model.specs.Rows.{waiters-by-priority, messages-by-priority}
 use Rattle.parts.specs.Chains.{task-chains, message-chains, tasks-in, messages-in}
 use Rattle.parts.specs.Mailboxes.{kept-attribute, MailboxSound, MailboxTestable, NumbersSound}
 use Rattle.parts.specs.declared.Mailbox.{Mailbox}
-use Rattle.parts.proofs.Lists.{chain-zero, empty-or, unless-empty}
+use Rattle.parts.proofs.Empty.{chain-zero, unless-empty, zero-or}
 
 -- Two tests of an attribute agree if they do from 0 to 3.
 attributes-agree : (f g : ℕ → Bool) → f 0 ≡ g 0 → f 1 ≡ g 1 → f 2 ≡ g 2 → f 3 ≡ g 3 → (attribute : ℕ) → attribute ≤ 3 → f attribute ≡ g attribute
@@ -40,15 +40,15 @@ messages-go-by-priority = attributes-agree messages-by-priority (leb 2) refl ref
 abbrev kept-highest : ℕ → ℕ → ℕ
 kept-highest attribute highest = cond (messages-by-priority attribute) highest 0
 
-kept : (b : Bool) (n : ℕ) → T b → cond b n 0 ≡ n
-kept true n t = refl
-kept false n t = absurd t
+cond-yes : (b : Bool) (n : ℕ) → T b → cond b n 0 ≡ n
+cond-yes true n t = refl
+cond-yes false n t = absurd t
 
 highest-range : {attribute highest : ℕ} → NumbersSound attribute highest → T (messages-by-priority attribute)
     → (1 ≤ kept-highest attribute highest) × (kept-highest attribute highest ≤ priority-limit)
 highest-range {attribute} {highest} n t =
     let by-priority = leb→le 2 attribute (rw (messages-go-by-priority attribute (n .attribute-in-range)) at t) in
-    rw (kept (messages-by-priority attribute) highest t) (⊎-elim (λ below. absurd (omega arith)) (λ r. r) (n .highest-in-range))
+    rw (cond-yes (messages-by-priority attribute) highest t) (⊎-elim (λ below. absurd (omega arith)) (λ r. r) (n .highest-in-range))
 
 numbers-sound : (attribute highest : ℕ) → attribute ≤ 3
     → (T (messages-by-priority attribute) → (1 ≤ kept-highest attribute highest) × (kept-highest attribute highest ≤ priority-limit)) → NumbersSound attribute highest
@@ -66,13 +66,15 @@ module _ {link key message-link message-key : List ℕ} {number : ℕ} (a : Mail
   pub messages-chain : HasChain message-limit message-chains number message-link
   messages-chain = record { sound = a .messages-table; low = a .low; high = a .high }
 
-module _ (x : Mailbox) {link key message-link message-key : List ℕ} {number : ℕ} (a : MailboxTestable number link key message-link message-key) {waiter message : ℕ} {b : Bool}
+module _ (x : Mailbox) {link key message-link message-key : List ℕ} {number : ℕ} (a : MailboxTestable number link key message-link message-key) {waiter message : ℕ}
     (w : waiter ≡ headD (getD (lists task-limit task-chains link) (32 + number) []) 0) (m : message ≡ headD (getD (lists message-limit message-chains message-link) number []) 0) where
-  pub defined-mailbox : x .defined ≡ true
-      → Whether (((NumbersSound (x .attribute) (x .highest) × ((waiter ≡ 0) ⊎ (message ≡ 0))) × (T (eqb (x .attribute) 1 || eqb (x .attribute) 3) → InOrder 1 priority-limit (keys-of key (getD (lists task-limit task-chains link) (32 + number) [])))) × (T (leb 2 (x .attribute)) → InOrder 1 (x .highest) (keys-of message-key (getD (lists message-limit message-chains message-link) number [])))) b
-      → Whether (MailboxSound x link key message-link message-key number) b
+  pub defined-mailbox : {b c e : Bool} → x .defined ≡ true
+      → Whether (NumbersSound (x .attribute) (x .highest) × ((waiter ≡ 0) ⊎ (message ≡ 0))) b
+      → Whether (T (eqb (x .attribute) 1 || eqb (x .attribute) 3) → InOrder 1 priority-limit (keys-of key (getD (lists task-limit task-chains link) (32 + number) []))) c
+      → Whether (T (leb 2 (x .attribute)) → InOrder 1 (x .highest) (keys-of message-key (getD (lists message-limit message-chains message-link) number []))) e
+      → Whether (MailboxSound x link key message-link message-key number) ((b && c) && e)
   unfolding tasks-in messages-in
-  defined-mailbox d i =
+  defined-mailbox d i o q =
       let first-waiter = chain-zero (waiters-chain a) w in
       let first-message = chain-zero (messages-chain a) m in
       let kept : kept-attribute x ≡ x .attribute = rw d in
@@ -84,25 +86,21 @@ module _ (x : Mailbox) {link key message-link message-key : List ℕ} {number : 
           undefined = λ t. absurd (rw d at t);
           attribute-in-range = rw kept range;
           highest-in-range = rw kept (highest-range (p .0 .0 .0));
-          waiters = unless-empty _ (⊎-elim (λ z. inl (first-waiter .then-empty z)) (λ z. inr (first-message .then-empty z)) (p .0 .0 .1));
+          waiters = unless-empty first-waiter (first-message .then-empty) (p .0 .0 .1);
         };
         waiters-in-order = λ t. p .0 .1 (rw (kept, waiters-go-by-priority (x .attribute) range) at t);
         messages-in-order = λ t. p .1 (rw (kept, messages-go-by-priority (x .attribute) range) at t);
       })
       (λ y.
-      let range : x .attribute ≤ 3 = rw kept at (y .row .attribute-in-range) in (
-        (
-          (
-            numbers-sound (x .attribute) (x .highest) range (rw kept at (y .row .highest-in-range)),
-            ⊎-elim (λ e. inl (first-waiter .then-zero e)) (λ e. inr (first-message .then-zero e)) (empty-or _ (y .row .waiters)),
-          ),
-          λ t. y .waiters-in-order (rw (kept, waiters-go-by-priority (x .attribute) range) t),
-        ),
+      let range : x .attribute ≤ 3 = rw kept at (y .row .attribute-in-range) in
+      let numbers = numbers-sound (x .attribute) (x .highest) range (rw kept at (y .row .highest-in-range)) in
+      let waits = zero-or first-waiter (first-message .then-zero) (y .row .waiters) in (
+        ((numbers, waits), λ t. y .waiters-in-order (rw (kept, waiters-go-by-priority (x .attribute) range) t)),
         λ t. y .messages-in-order (rw (kept, messages-go-by-priority (x .attribute) range) t),
       ))
-      i
+      (is-and (is-and i o) q)
 
-  pub undefined-mailbox : x .defined ≡ false → Whether ((waiter ≡ 0) × (message ≡ 0)) b → Whether (MailboxSound x link key message-link message-key number) b
+  pub undefined-mailbox : {b : Bool} → x .defined ≡ false → Whether ((waiter ≡ 0) × (message ≡ 0)) b → Whether (MailboxSound x link key message-link message-key number) b
   unfolding tasks-in messages-in one-of
   undefined-mailbox d i =
       let first-waiter = chain-zero (waiters-chain a) w in
@@ -113,7 +111,7 @@ module _ (x : Mailbox) {link key message-link message-key : List ℕ} {number : 
           undefined = λ t. (first-waiter .then-empty (p .0), first-message .then-empty (p .1));
           attribute-in-range = rw d zero-le;
           highest-in-range = λ t. absurd (rw d at t);
-          waiters = unless-empty _ (inl (first-waiter .then-empty (p .0)));
+          waiters = unless-empty first-waiter (λ h. h) (inl (p .0));
         };
         waiters-in-order = λ t. absurd (rw d at t);
         messages-in-order = λ t. absurd (rw d at t);

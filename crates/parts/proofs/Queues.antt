@@ -1,6 +1,6 @@
 -- A data queue's test says what `QueueSound` says: those that wait as lists are read off the heads of their chains.
 use mathlib.Core.Path.{_≡_, sym, _∙_}
-use mathlib.Core.Bool.{Bool, true, false, not}
+use mathlib.Core.Bool.{Bool, true, false, not, _&&_}
 use mathlib.Core.List.{List, [], headD}
 use mathlib.Core.Logic.{inl, inr, ⊎-elim}
 use Prim.Native.Nat.{ℕ, _+_, _≤_, zero-le}
@@ -9,39 +9,37 @@ use lib.Dec.{T, eqb}
 use lib.ListN.{length, getD}
 use Rattle.lists.specs.Lists.{InOrder, empty}
 use Rattle.lists.specs.Tests.{Whether}
-use Rattle.lists.proofs.Tests.{is-map}
+use Rattle.lists.proofs.Tests.{is-map, is-and}
 use Rattle.chain.specs.Table.{lists, keys-of}
 use Rattle.chain.specs.Changes.{HasChain}
 use Rattle.ring.specs.Ring.{stored, InRange}
 use Rattle.ring.specs.declared.Ring.{Ring}
 use Rattle.ring.proofs.Stored.{length-stored}
 use Rattle.model.specs.Sizes.{task-limit, priority-limit}
-use Rattle.model.specs.WellFormed.{senders-of, receivers-of}
 use Rattle.parts.specs.Chains.{task-chains, tasks-in}
 use Rattle.parts.specs.Queues.{QueueSound, QueueTestable, WaitsSound}
 use Rattle.parts.specs.declared.Queue.{Queue}
-use Rattle.parts.proofs.Lists.{ZeroIfEmpty, is-empty, count-zero, chain-zero, empty-or, unless-empty}
+use Rattle.parts.proofs.Empty.{ZeroIffEmpty, count-zero, chain-zero, unless-empty, zero-or}
+
+counted : (ring : Ring) → ZeroIffEmpty (ring .count) (stored ring)
+counted ring = count-zero (stored ring) (length-stored ring)
 
 -- Those that wait at a queue with this ring, in numbers and in lists.
-module _ (ring : Ring) {sender receiver : ℕ} {senders receivers : List ℕ} (first-sender : ZeroIfEmpty sender senders) (first-receiver : ZeroIfEmpty receiver receivers) where
-  counted : ZeroIfEmpty (ring .count) (stored ring)
-  counted = count-zero (stored ring) (length-stored ring)
-
+module _ (ring : Ring) {sender receiver : ℕ} {senders receivers : List ℕ} (first-sender : ZeroIffEmpty sender senders) (first-receiver : ZeroIffEmpty receiver receivers) where
   senders-wait : WaitsSound (ring .count) (ring .capacity) sender receiver → T (not (empty senders)) → (length (stored ring) ≡ ring .capacity) × (receivers ≡ [])
-  senders-wait w =
-      unless-empty senders (⊎-elim (λ z. inl (first-sender .then-empty z)) (λ h. inr (length-stored ring ∙ h .0, first-receiver .then-empty (h .1))) (w .senders))
+  senders-wait w = unless-empty first-sender (λ h. (length-stored ring ∙ h .0, first-receiver .then-empty (h .1))) (w .senders)
 
   receivers-wait : WaitsSound (ring .count) (ring .capacity) sender receiver → T (not (empty receivers)) → (stored ring ≡ []) × (senders ≡ [])
   receivers-wait w t = (
-    unless-empty receivers (⊎-elim (λ z. inl (first-receiver .then-empty z)) (λ z. inr (counted .then-empty z)) (w .receivers)) t,
-    unless-empty receivers (⊎-elim (λ z. inr (first-sender .then-empty z)) (λ h. inl (first-receiver .then-empty (h .1))) (w .senders)) t,
+    unless-empty first-receiver (counted ring .then-empty) (w .receivers) t,
+    unless-empty first-receiver (first-sender .then-empty) (⊎-elim inr (λ h. inl (h .1)) (w .senders)) t,
   )
 
   waits-are : (T (not (empty senders)) → (length (stored ring) ≡ ring .capacity) × (receivers ≡ [])) → (T (not (empty receivers)) → (stored ring ≡ []) × (senders ≡ []))
       → WaitsSound (ring .count) (ring .capacity) sender receiver
   waits-are f g = record {
-    senders = ⊎-elim (λ e. inl (first-sender .then-zero e)) (λ h. inr (sym (length-stored ring) ∙ h .0, first-receiver .then-zero (h .1))) (empty-or senders f);
-    receivers = ⊎-elim (λ e. inl (first-receiver .then-zero e)) (λ h. inr (counted .then-zero (h .0))) (empty-or receivers g);
+    senders = zero-or first-sender (λ h. (sym (length-stored ring) ∙ h .0, first-receiver .then-zero (h .1))) f;
+    receivers = zero-or first-receiver (λ h. counted ring .then-zero (h .0)) g;
   }
 
 module _ {link key : List ℕ} {q : ℕ} (a : QueueTestable q link key) where
@@ -51,13 +49,14 @@ module _ {link key : List ℕ} {q : ℕ} (a : QueueTestable q link key) where
   pub receivers-chain : HasChain task-limit task-chains (16 + q) link
   receivers-chain = record { sound = a .table; low = omega arith; high = let h = a .high in omega arith }
 
-module _ (x : Queue) {link key : List ℕ} {q : ℕ} (a : QueueTestable q link key) {sender receiver : ℕ} {b : Bool}
+module _ (x : Queue) {link key : List ℕ} {q : ℕ} (a : QueueTestable q link key) {sender receiver : ℕ}
     (s : sender ≡ headD (getD (lists task-limit task-chains link) q []) 0) (r : receiver ≡ headD (getD (lists task-limit task-chains link) (16 + q) []) 0) where
-  pub defined-queue : x .defined ≡ true
-      → Whether ((((x .attribute ≤ 1) × InRange (x .ring)) × WaitsSound (x .ring .count) (x .ring .capacity) sender receiver) × (T (eqb (x .attribute) 1) → InOrder 1 priority-limit (keys-of key (getD (lists task-limit task-chains link) q [])))) b
-      → Whether (QueueSound x link key q) b
+  pub defined-queue : {b c : Bool} → x .defined ≡ true
+      → Whether (((x .attribute ≤ 1) × InRange (x .ring)) × WaitsSound (x .ring .count) (x .ring .capacity) sender receiver) b
+      → Whether (T (eqb (x .attribute) 1) → InOrder 1 priority-limit (keys-of key (getD (lists task-limit task-chains link) q []))) c
+      → Whether (QueueSound x link key q) (b && c)
   unfolding tasks-in
-  defined-queue d i =
+  defined-queue d i o =
       let first-sender = chain-zero (senders-chain a) s in
       let first-receiver = chain-zero (receivers-chain a) r in
       is-map
@@ -77,16 +76,14 @@ module _ (x : Queue) {link key : List ℕ} {q : ℕ} (a : QueueTestable q link k
         ((rw d at (y .row .attribute-in-range), y .ring (rw d tt)), waits-are (x .ring) first-sender first-receiver (rw d at (y .row .senders)) (y .row .receivers)),
         λ t. y .senders-in-order (rw d t),
       ))
-      i
+      (is-and i o)
 
-  pub undefined-queue : x .defined ≡ false
-      → Whether (((x .ring .count ≡ 0) × (sender ≡ 0)) × (receiver ≡ 0)) b
-      → Whether (QueueSound x link key q) b
+  pub undefined-queue : {b : Bool} → x .defined ≡ false → Whether (((x .ring .count ≡ 0) × (sender ≡ 0)) × (receiver ≡ 0)) b → Whether (QueueSound x link key q) b
   unfolding tasks-in
   undefined-queue d i =
       let first-sender = chain-zero (senders-chain a) s in
       let first-receiver = chain-zero (receivers-chain a) r in
-      let words = counted (x .ring) first-sender first-receiver in
+      let words = counted (x .ring) in
       is-map
       (λ p. record {
         ring = λ t. absurd (rw d at t);
@@ -95,8 +92,8 @@ module _ (x : Queue) {link key : List ℕ} {q : ℕ} (a : QueueTestable q link k
           attribute-in-range = rw d zero-le;
           capacity-in-range = rw d zero-le;
           count = rw (d, length-stored, p .0 .0) zero-le;
-          senders = unless-empty _ (inl (first-sender .then-empty (p .0 .1)));
-          receivers = unless-empty _ (inl (first-receiver .then-empty (p .1)));
+          senders = unless-empty first-sender (λ h. h) (inl (p .0 .1));
+          receivers = unless-empty first-receiver (λ h. h) (inl (p .1));
         };
         senders-in-order = λ t. absurd (rw d at t);
       })

@@ -34,7 +34,7 @@ returns c =
     let heads = taken .before in
     let start = heads .before .before in
     defined-mailbox (start .args .mailbox) (start .pre) (heads .before .first .ensures) (heads .first2 .ensures) (taken .if1 .taken)
-    (is-and (is-and (is-and (c .before .before .numbers-sound .ensures) (is-or (is-eqb _ _) (is-eqb _ _))) (c .before .in-order-if .ensures)) (c .in-order-if2 .ensures))
+    (is-and (c .before .before .numbers-sound .ensures) (is-or (is-eqb _ _) (is-eqb _ _))) (c .before .in-order-if .ensures) (c .in-order-if2 .ensures)
 
 returns-2 : tie.Need-returns-2
 returns-2 c =

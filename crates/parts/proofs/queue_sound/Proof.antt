@@ -31,7 +31,7 @@ returns c =
     let heads = taken .before in
     let start = heads .before .before in
     defined-queue (start .args .queue) (start .pre) (heads .before .first .ensures) (heads .first2 .ensures) (taken .if1 .taken)
-    (is-and (is-and (is-and (is-leb _ _) (c .before .before .in-range .ensures)) (c .before .waits-sound .ensures)) (c .in-order-if .ensures))
+    (is-and (is-and (is-leb _ _) (c .before .before .in-range .ensures)) (c .before .waits-sound .ensures)) (c .in-order-if .ensures)
 
 returns-2 : tie.Need-returns-2
 returns-2 c =
