@@ -1,0 +1,44 @@
+-- What is read of a record's rows: its cells where the number is valid, and nothing elsewhere. By the decision whether it is.
+use mathlib.Core.Path.{_≡_, refl}
+use mathlib.Core.Bool.{Bool, true, false, not, cond}
+use Prim.Native.Nat.{ℕ, _≤_}
+use lib.Dec.{T, leb, leb→le, le→leb}
+use mir.Facts.{and-yes, yes-and}
+use Rattle.model.specs.Sizes.{within}
+use Rattle.model.specs.Rows.{Key, valid, Row, nothing}
+use Rattle.kernel.specs.declared.State.{State}
+use Rattle.kernel.specs.Meaning.{cells-of, abs}
+
+-- A Boolean passes or doesn't.
+pub passes-or-not : {P : Type 0} (b : Bool) → (T b → P) → (T (not b) → P) → P
+passes-or-not true y n = y tt
+passes-or-not false y n = n tt
+
+-- A choice has whatever both sides have.
+pub cond-cases : {X : Type 0} (P : X → Type 0) (b : Bool) {x y : X} → (T b → P x) → (T (not b) → P y) → P (cond b x y)
+cond-cases P true p q = p tt
+cond-cases P false p q = q tt
+
+pub cond-yes : {X : Type 0} (b : Bool) (x y : X) → T b → cond b x y ≡ x
+cond-yes true x y t = refl
+cond-yes false x y t = absurd t
+
+pub cond-no : {X : Type 0} (b : Bool) (x y : X) → T (not b) → cond b x y ≡ y
+cond-no true x y t = absurd t
+cond-no false x y t = refl
+
+pub within-range : (low high n : ℕ) → T (within low high n) → (low ≤ n) × (n ≤ high)
+within-range low high n t = let b = and-yes (leb low n) (leb n high) t in (leb→le low n (b .0), leb→le n high (b .1))
+
+pub in-range : (low high n : ℕ) → low ≤ n → n ≤ high → T (within low high n)
+in-range low high n l h = yes-and (leb low n) (leb n high) (le→leb low n l) (le→leb n high h)
+
+-- The row of a valid number is what its cells say, and what holds of that and of an undefined row holds of every row.
+module _ (s : State) (k : Key) where
+  pub row-is : T (valid k) → abs s .rows k ≡ cells-of s k
+  unfolding abs
+  row-is t = cond-yes (valid k) _ _ t
+
+  pub row-cases : (P : Row k → Type 0) → (T (valid k) → P (cells-of s k)) → (T (not (valid k)) → P (nothing k)) → P (abs s .rows k)
+  unfolding abs
+  row-cases P p q = cond-cases P (valid k) p q
