@@ -19,20 +19,25 @@ use parts::TASKS;
 use parts::Task;
 use ring::Ring;
 
+// Cell 0 and 32 tasks; cell 0 and 16 data queues, or mailboxes.
+const TASK_CELLS: usize = 33;
+
+const OBJECT_CELLS: usize = 17;
+
 // Cell n of each array belongs to number n; cell 0 is nobody's and never counts. A task's record is its cells in `tasks` and `waiting`, a message's those in
 // `messages`.
 pub struct State {
     pub counter: u32,
-    pub tasks: [Task; 33],
+    pub tasks: [Task; TASK_CELLS],
     // The wait queues; the keys are the tasks' priorities.
     pub waiting: Chains,
-    pub queues: [Queue; 17],
-    pub mailboxes: [Mailbox; 17],
+    pub queues: [Queue; OBJECT_CELLS],
+    pub mailboxes: [Mailbox; OBJECT_CELLS],
     // The messages queued in each mailbox; the keys are the priorities kept with them.
     pub messages: Chains,
 }
 
-// A task's priority.
+// The key of a number.
 fn key_of(key: &[u8; KEY_CELLS], number: usize) -> u8
     requires { ⌜ number < 65 ⌝ }
     ensures { λ r. ⌜ r ≡ getD (now (key .entry)) number 0 ⌝ }
@@ -67,10 +72,10 @@ impl State {
         let messages = Chains::new();
         State {
             counter: 0,
-            tasks: [task; 33],
+            tasks: [task; TASK_CELLS],
             waiting,
-            queues: [queue; 17],
-            mailboxes: [mailbox; 17],
+            queues: [queue; OBJECT_CELLS],
+            mailboxes: [mailbox; OBJECT_CELLS],
             messages,
         }
     }
@@ -89,7 +94,7 @@ impl State {
         }
         let counter = self.counter;
         let mut t: usize = 1;
-        while t < 33 {
+        while t < TASK_CELLS {
             let task = self.tasks[t];
             let priority = key_of(&self.waiting.key, t);
             if !parts::task_sound(task, priority, standing[t], counter) {
@@ -98,7 +103,7 @@ impl State {
             t += 1;
         }
         let mut n: usize = 1;
-        while n < 17 {
+        while n < OBJECT_CELLS {
             let queue = self.queues[n];
             if !parts::queue_sound(queue, &self.waiting.link, &self.waiting.key, n) {
                 return false;

@@ -27,17 +27,13 @@ abbrev μ-loop2 : tie.MeasureT-loop2
 μ-loop2 self counter t n₀ n = 17 - n
 
 sound-requires : tie.Need-sound-requires Inv-loop μ-loop Inv-loop2 μ-loop2
-sound-requires c κs =
-    let cells : length (c .before .before .before .args .t1 .waiting .link) ≡ 81 = search needs in
-    (record { cells-count = cells; keys-fit = omega arith; heads-fit = omega arith }, refl)
+sound-requires c κs = (record { cells-count = search needs; keys-fit = omega arith; heads-fit = omega arith }, refl)
 
 returns : tie.Need-returns Inv-loop μ-loop Inv-loop2 μ-loop2
 returns c = fails (λ S. stopped (c .before .sound .ensures .exact) (c .if1 .taken) (S .waiting))
 
 sound-requires-2 : tie.Need-sound-requires-2 Inv-loop μ-loop Inv-loop2 μ-loop2
-sound-requires-2 c κs =
-    let cells : length (c .before .before .before .before .before .before .before .before .args .t1 .messages .link) ≡ 81 = search needs in
-    (record { cells-count = cells; keys-fit = omega arith; heads-fit = omega arith }, refl)
+sound-requires-2 c κs = (record { cells-count = search needs; keys-fit = omega arith; heads-fit = omega arith }, refl)
 
 returns-2 : tie.Need-returns-2 Inv-loop μ-loop Inv-loop2 μ-loop2
 returns-2 c = fails (λ S. stopped (c .before .sound2 .ensures .exact) (c .if2 .taken) (S .messages))
@@ -115,7 +111,8 @@ element-copy-out-queue c = let h = c .loop2-test .taken in omega arith
 queue-sound-requires : tie.Need-queue-sound-requires Inv-loop μ-loop Inv-loop2 μ-loop2
 queue-sound-requires c κs =
     let i = c .before .before .before .before .before .loop2 .inv in
-    queue-testable (i .2) (i .0) (c .before .before .before .before .loop2-test .taken)
+    let h = c .before .before .before .before .loop2-test .taken in
+    queue-testable (i .2) (i .0) (omega arith)
 
 returns-4 : tie.Need-returns-4 Inv-loop μ-loop Inv-loop2 μ-loop2
 returns-4 c =
@@ -133,7 +130,8 @@ element-copy-out-mailbox c = let h = c .before .before .before .before .before .
 mailbox-sound-requires : tie.Need-mailbox-sound-requires Inv-loop μ-loop Inv-loop2 μ-loop2
 mailbox-sound-requires c κs =
     let i = c .before .before .before .before .before .before .before .before .before .before .before .before .before .loop2 .inv in
-    mailbox-testable (i .2) (i .0) (c .before .before .before .before .before .before .before .before .before .before .before .before .loop2-test .taken)
+    let h = c .before .before .before .before .before .before .before .before .before .before .before .before .loop2-test .taken in
+    mailbox-testable (i .2) (i .0) (omega arith)
 
 returns-5 : tie.Need-returns-5 Inv-loop μ-loop Inv-loop2 μ-loop2
 returns-5 c =
