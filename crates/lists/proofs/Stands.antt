@@ -58,6 +58,17 @@ unfolding without ahead remove-at headD empty
 without-head [] t = absurd t
 without-head (x ∷ l) t = rw (eq-eqb x x refl)
 
+-- From an empty list nothing is taken out.
+pub without-none : (x : ℕ) → without x [] ≡ []
+unfolding without ahead remove-at
+without-none x = refl
+
+-- A list that is empty where another is has elements only where the other has.
+pub not-empty-before : (l r : List ℕ) → (l ≡ [] → r ≡ []) → T (not (empty r)) → T (not (empty l))
+unfolding empty
+not-empty-before [] r h t = rw (h refl) at t
+not-empty-before (x ∷ l) r h t = tt
+
 -- Functions that agree on the members of a list make the same of it.
 pub map-members : {X : Type 0} (f g : ℕ → X) (l : List ℕ) → ((x : ℕ) → In x l → f x ≡ g x) → map f l ≡ map g l
 map-members f g [] h = refl

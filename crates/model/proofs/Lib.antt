@@ -6,3 +6,5 @@ pub mod Accepted
 pub mod Footprints
 pub mod Refusals
 pub mod Isolation
+pub mod Standing
+pub mod WaitMoves
