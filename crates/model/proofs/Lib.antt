@@ -8,3 +8,4 @@ pub mod Refusals
 pub mod Isolation
 pub mod Standing
 pub mod WaitMoves
+pub mod RowMoves

@@ -1,15 +1,16 @@
 -- What is read of the rows when a wait queue or a task's row has changed: the rows with all wait queues, or all tasks, given by a function, so that every
 -- other part of a row is read by computing.
 use mathlib.Core.Path.{_≡_, refl, sym, _∙_, ap, fun-ext, pathJ′, subst}
-use mathlib.Core.Bool.{Bool}
+use mathlib.Core.Bool.{Bool, not}
 use mathlib.Core.List.{List}
 use mathlib.Core.Logic.{_≢_}
 use Prim.Native.Nat.{ℕ}
 use native.Mathlib.Decide.{ℕ-discrete}
+use lib.Dec.{T, T-not}
 use Rattle.rows.specs.Program as Program
 use Rattle.rows.specs.Program.{update}
-use Rattle.rows.proofs.Update.{update-same, update-other}
-use Rattle.model.specs.Rows.{Key, task, suspension, queue, mailbox, message, same-key, Row, TaskRow, QueueRow, MailboxRow, MessageRow, with-senders, with-receivers, with-waiters}
+use Rattle.rows.proofs.Update.{update-same, update-other, update-cases}
+use Rattle.model.specs.Rows.{Key, task, suspension, queue, mailbox, message, same-key, valid, Row, TaskRow, QueueRow, MailboxRow, MessageRow, nothing, with-senders, with-receivers, with-waiters}
 use Rattle.model.specs.WellFormed.{WaitQueue, senders-of, receivers-of, waiters-of, WaitQueue-discrete, standing-in}
 
 -- Decides whether two wait queues are the same.
@@ -44,6 +45,10 @@ module _ (n : ℕ) (m : Program.Rows Row) where
 
   pub message-cases : (P : ℕ → MessageRow → Type 0) (v : MessageRow) → P n v → (j : ℕ) → (j ≢ n → P j (m (message j))) → P j (update same-key (message n) v m (message j))
   message-cases P v = row-cases message (λ i j e. cc) P n v m
+
+-- Nothing stands beyond the limits after a valid row was put.
+pub put-in-range : {m : Program.Rows Row} → ((k : Key) → T (not (valid k)) → m k ≡ nothing k) → (k : Key) (v : Row k) → T (valid k) → (j : Key) → T (not (valid j)) → update same-key k v m j ≡ nothing j
+put-in-range {m} h k v t j = update-cases same-key (λ i x. T (not (valid i)) → x ≡ nothing i) k v m (λ n. absurd (T-not (valid k) n t)) j (λ d. h j)
 
 -- ── Wait queues ──
 

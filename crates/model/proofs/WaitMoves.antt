@@ -18,7 +18,7 @@ use Rattle.model.specs.Rows.{Key, task, suspension, queue, mailbox, mess
 use Rattle.model.specs.Codes.{Code}
 use Rattle.model.specs.Waits.{Wait, NoWait, Sending, Receiving, AtMailbox, wait-end, starting, ended}
 use Rattle.model.specs.WellFormed.{WaitQueue, senders-of, receivers-of, waiters-of, standing-in, by-priority, wait-queue, ObjectInRange, ends-a-wait, EndAhead, TaskWellFormed, QueueWellFormed, MailboxWellFormed, WellFormedRows}
-use Rattle.model.proofs.Standing.{same-queue, changed, task-cases, set-standing, with-standing, set-standing-is}
+use Rattle.model.proofs.Standing.{same-queue, changed, task-cases, put-in-range, set-standing, with-standing, set-standing-is}
 
 -- The object whose wait queue it is.
 abbrev pub object-of : WaitQueue → Key
@@ -56,13 +56,12 @@ module _ (m : Program.Rows Row) (c : WaitQueue) (l : List ℕ) (t : ℕ) (row : 
     as-before : (d : WaitQueue) → T (not (valid (object-of d))) → lists d ≡ standing-in m d
     as-before d n = update-other same-queue c l (standing-in m) d (λ e. T-not (valid (object-of d)) n (rw e valid-object))
 
-    rows-in-range : (k : Key) → T (not (valid k)) → moved k ≡ nothing k
-    unfolding same-key update
-    rows-in-range (task j) n = task-cases t (with-standing lists m) (λ i x. T (not (valid (task i))) → x ≡ no-task) row (λ d. absurd (T-not (valid (task t)) d valid-task)) j (λ d. w .in-range (task j)) n
-    rows-in-range (suspension j) n = w .in-range (suspension j) n
-    rows-in-range (queue q) n = rw (as-before (receivers-of q) n, as-before (senders-of q) n) (w .in-range (queue q) n)
-    rows-in-range (mailbox b) n = rw (as-before (waiters-of b) n) (w .in-range (mailbox b) n)
-    rows-in-range (message g) n = w .in-range (message g) n
+    lists-in-range : (k : Key) → T (not (valid k)) → with-standing lists m k ≡ nothing k
+    lists-in-range (task j) n = w .in-range (task j) n
+    lists-in-range (suspension j) n = w .in-range (suspension j) n
+    lists-in-range (queue q) n = rw (as-before (receivers-of q) n, as-before (senders-of q) n) (w .in-range (queue q) n)
+    lists-in-range (mailbox b) n = rw (as-before (waiters-of b) n) (w .in-range (mailbox b) n)
+    lists-in-range (message g) n = w .in-range (message g) n
 
     queues : (c : WaitQueue) → ((d : WaitQueue) → ObjectWellFormed m d (changed same-queue c l (standing-in m) d)) → (q : ℕ) → QueueWellFormed (with-standing (changed same-queue c l (standing-in m)) m (queue q))
     unfolding same-queue update
@@ -89,7 +88,7 @@ module _ (m : Program.Rows Row) (c : WaitQueue) (l : List ℕ) (t : ℕ) (row : 
     wait-moved : StandsWhereNamed lists (λ j. wait-queue (moved (task j) .wait)) → WellFormedRows counter soonest moved
     unfolding same-key update
     wait-moved stands = record {
-      in-range = rows-in-range;
+      in-range = put-in-range lists-in-range (task t) row valid-task;
       tasks = λ j. task-cases t (with-standing lists m) (λ i x. TaskWellFormed counter (soonest i) x) row task-fits j (λ n. w .tasks j);
       suspensions = λ j. task-cases t (with-standing lists m) (λ i x. T (m (suspension i)) → T (x .defined)) row (λ h. rw same-defined (w .suspensions t h)) j (λ n. w .suspensions j);
       queues = queues c objects;
