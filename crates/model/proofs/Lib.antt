@@ -9,3 +9,4 @@ pub mod Isolation
 pub mod Standing
 pub mod WaitMoves
 pub mod RowMoves
+pub mod MessageMoves

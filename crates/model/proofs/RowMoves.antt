@@ -1,17 +1,16 @@
 -- A row put with the wait queues as they were, and a mailbox's row put with its messages', keep the rows well-formed: sentence by sentence, what isn't touched
 -- being read by computing.
 use mathlib.Core.Path.{_≡_, refl, sym, _∙_, ap, subst₂, fun-ext}
-use mathlib.Core.Bool.{Bool, true, false, not}
-use mathlib.Core.List.{List, [], _∷_, map, List·Memᴰ as In}
+use mathlib.Core.Bool.{Bool, not}
+use mathlib.Core.List.{map, List·Memᴰ as In}
 use mathlib.Core.Logic.{_≢_}
 use mathlib.Core.Option.{Option·none-ne-some}
 use Prim.Native.Nat.{ℕ}
-use lib.Dec.{T, T-not}
+use lib.Dec.{T}
 use Rattle.lists.specs.Lists.{InOrder, StandsWhereNamed}
 use Rattle.lists.proofs.Stands.{map-members}
 use Rattle.rows.specs.Program as Program
 use Rattle.rows.specs.Program.{update}
-use Rattle.rows.proofs.Update.{update-same, update-other, update-cases}
 use Rattle.model.specs.Sizes.{priority-limit}
 use Rattle.model.specs.Rows.{Key, task, suspension, queue, mailbox, message, same-key, valid, Row, TaskRow, QueueRow, MailboxRow, MessageRow, senders-by-priority, waiters-by-priority, messages-by-priority, free, nothing}
 use Rattle.model.specs.Waits.{NoWait}

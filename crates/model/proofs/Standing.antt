@@ -1,6 +1,6 @@
 -- What is read of the rows when a wait queue or a task's row has changed: the rows with all wait queues, or all tasks, given by a function, so that every
 -- other part of a row is read by computing.
-use mathlib.Core.Path.{_≡_, refl, sym, _∙_, ap, fun-ext, pathJ′, subst}
+use mathlib.Core.Path.{_≡_, refl, sym, ap, fun-ext, pathJ′, subst}
 use mathlib.Core.Bool.{Bool, not}
 use mathlib.Core.List.{List}
 use mathlib.Core.Logic.{_≢_}

@@ -1,12 +1,12 @@
 -- A task that leaves a wait queue or joins one, with its wait changed alike, keeps the rows well-formed: one lemma for both, over the wait queues as lists.
 use mathlib.Core.Path.{_≡_, refl, sym, _∙_, ap, subst, fun-ext}
 use mathlib.Core.Bool.{Bool, true, false, not}
-use mathlib.Core.List.{List, [], _∷_, map}
+use mathlib.Core.List.{List, [], map}
 use mathlib.Core.Logic.{_≢_}
-use mathlib.Core.Option.{none, some, Option·none-ne-some, Option·some-injective}
+use mathlib.Core.Option.{some, Option·none-ne-some, Option·some-injective}
 use Prim.Native.Nat.{ℕ, _≤_}
 use lib.Dec.{T, T-not}
-use Rattle.lists.specs.Lists.{empty, insert-at, remove-at, ahead, without, passed, InOrder, StandsWhereNamed}
+use Rattle.lists.specs.Lists.{insert-at, ahead, without, passed, InOrder, StandsWhereNamed}
 use Rattle.lists.proofs.Changes.{map-insert, map-remove}
 use Rattle.lists.proofs.Order.{in-order-insert, in-order-remove}
 use Rattle.lists.proofs.Stands.{without-none, not-empty-before, stands-leave, stands-join}
@@ -14,7 +14,7 @@ use Rattle.rows.specs.Program as Program
 use Rattle.rows.specs.Program.{update}
 use Rattle.rows.proofs.Update.{update-same, update-other, update-cases}
 use Rattle.model.specs.Sizes.{priority-limit}
-use Rattle.model.specs.Rows.{Key, task, suspension, queue, mailbox, message, same-key, valid, Row, TaskRow, no-task, nothing, with-senders, with-receivers, with-waiters}
+use Rattle.model.specs.Rows.{Key, task, suspension, queue, mailbox, message, same-key, valid, Row, TaskRow, nothing, with-senders, with-receivers, with-waiters}
 use Rattle.model.specs.Codes.{Code}
 use Rattle.model.specs.Waits.{Wait, NoWait, Sending, Receiving, AtMailbox, wait-end, starting, ended}
 use Rattle.model.specs.WellFormed.{WaitQueue, senders-of, receivers-of, waiters-of, standing-in, by-priority, wait-queue, ObjectInRange, ends-a-wait, EndAhead, TaskWellFormed, QueueWellFormed, MailboxWellFormed, WellFormedRows}
@@ -120,16 +120,16 @@ named-object (AtMailbox b end) c e = ap (λ d. T (valid (object-of d))) (Option�
 
 -- Priorities stay in order.
 module _ (f : ℕ → ℕ) {most : ℕ} (t : ℕ) (l : List ℕ) where
-  in-order-without : InOrder 1 most (map f l) → InOrder 1 most (map f (without t l))
+  pub in-order-without : InOrder 1 most (map f l) → InOrder 1 most (map f (without t l))
   unfolding without
   in-order-without o = rw (map-remove f (ahead t l) l) (in-order-remove (ahead t l) o)
 
-  in-order-with : (n : ℕ) → n ≡ passed (f t) (map f l) → 1 ≤ f t → f t ≤ most → InOrder 1 most (map f l) → InOrder 1 most (map f (insert-at n t l))
+  pub in-order-with : (n : ℕ) → n ≡ passed (f t) (map f l) → 1 ≤ f t → f t ≤ most → InOrder 1 most (map f l) → InOrder 1 most (map f (insert-at n t l))
   in-order-with n e low high o = rw (map-insert f n t l, e) (in-order-insert (f t) low high o)
 
 -- What is defined is valid.
 module _ {counter : ℕ} {soonest : ℕ → ℕ} {m : Program.Rows Row} (w : WellFormedRows counter soonest m) where
-  is-valid : (k : Key) → (m k ≡ nothing k → ⊥) → T (valid k)
+  pub is-valid : (k : Key) → (m k ≡ nothing k → ⊥) → T (valid k)
   is-valid k f = go (valid k) (w .in-range k)
     where
       go : (b : Bool) → (T (not b) → m k ≡ nothing k) → T b
