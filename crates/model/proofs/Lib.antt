@@ -10,3 +10,5 @@ pub mod Standing
 pub mod WaitMoves
 pub mod RowMoves
 pub mod MessageMoves
+pub mod After
+pub mod EndWaits

@@ -36,10 +36,10 @@ ObjectWellFormed m (waiters-of b) l = MailboxWellFormed (with-waiters l (m (mail
 
 -- List l for wait queue c and this row for task t.
 module _ (m : Program.Rows Row) (c : WaitQueue) (l : List ℕ) (t : ℕ) (row : TaskRow) where
-  abbrev lists : WaitQueue → List ℕ
+  abbrev pub lists : WaitQueue → List ℕ
   lists = changed same-queue c l (standing-in m)
 
-  abbrev moved : Program.Rows Row
+  abbrev pub moved : Program.Rows Row
   moved = update same-key (task t) row (with-standing lists m)
 
   own-wait : wait-queue (moved (task t) .wait) ≡ wait-queue (row .wait)
