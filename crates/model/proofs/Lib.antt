@@ -12,3 +12,4 @@ pub mod RowMoves
 pub mod MessageMoves
 pub mod After
 pub mod EndWaits
+pub mod KeptQueues

@@ -1,6 +1,6 @@
 -- What is read of the rows when a wait queue or a task's row has changed: the rows with all wait queues, or all tasks, given by a function, so that every
 -- other part of a row is read by computing.
-use mathlib.Core.Path.{_≡_, refl, sym, ap, fun-ext, pathJ′, subst}
+use mathlib.Core.Path.{_≡_, refl, sym, _∙_, ap, fun-ext, pathJ′, subst}
 use mathlib.Core.Bool.{Bool, not}
 use mathlib.Core.List.{List}
 use mathlib.Core.Logic.{_≢_}
@@ -45,6 +45,10 @@ module _ (n : ℕ) (m : Program.Rows Row) where
 
   pub message-cases : (P : ℕ → MessageRow → Type 0) (v : MessageRow) → P n v → (j : ℕ) → (j ≢ n → P j (m (message j))) → P j (update same-key (message n) v m (message j))
   message-cases P v = row-cases message (λ i j e. cc) P n v m
+
+-- Of two rows put at one key the second stays.
+pub put-twice : (k : Key) (u v : Row k) (m : Program.Rows Row) → update same-key k v (update same-key k u m) ≡ update same-key k v m
+put-twice k u v m = fun-ext (λ j. update-cases same-key (λ i y. y ≡ update same-key k v m i) k v (update same-key k u m) (sym (update-same same-key k v m)) j (λ n. update-other same-key k u m j n ∙ sym (update-other same-key k v m j n)))
 
 -- Nothing stands beyond the limits after a valid row was put.
 pub put-in-range : {m : Program.Rows Row} → ((k : Key) → T (not (valid k)) → m k ≡ nothing k) → (k : Key) (v : Row k) → T (valid k) → (j : Key) → T (not (valid j)) → update same-key k v m j ≡ nothing j

@@ -1,15 +1,15 @@
 -- A task that leaves a wait queue or joins one, with its wait changed alike, keeps the rows well-formed: one lemma for both, over the wait queues as lists.
 use mathlib.Core.Path.{_≡_, refl, sym, _∙_, ap, subst, fun-ext}
 use mathlib.Core.Bool.{Bool, true, false, not}
-use mathlib.Core.List.{List, [], map}
+use mathlib.Core.List.{List, [], map, tail, headD}
 use mathlib.Core.Logic.{_≢_}
 use mathlib.Core.Option.{some, Option·none-ne-some, Option·some-injective}
 use Prim.Native.Nat.{ℕ, _≤_}
 use lib.Dec.{T, T-not}
-use Rattle.lists.specs.Lists.{insert-at, ahead, without, passed, InOrder, StandsWhereNamed}
+use Rattle.lists.specs.Lists.{empty, insert-at, ahead, without, passed, InOrder, StandsWhereNamed}
 use Rattle.lists.proofs.Changes.{map-insert, map-remove}
 use Rattle.lists.proofs.Order.{in-order-insert, in-order-remove}
-use Rattle.lists.proofs.Stands.{without-none, not-empty-before, stands-leave, stands-join}
+use Rattle.lists.proofs.Stands.{in-head, without-head, without-none, not-empty-before, stands-leave, stands-join}
 use Rattle.rows.specs.Program as Program
 use Rattle.rows.specs.Program.{update}
 use Rattle.rows.proofs.Update.{update-same, update-other, update-cases}
@@ -198,3 +198,8 @@ module _ {counter : ℕ} {soonest : ℕ → ℕ} {m : Program.Rows Row} (w : Wel
         (record { undefined = λ d. absurd (T-not (m (task t) .defined) d defined); priority-in-range = w .tasks t .priority-in-range; object-in-range = rw (named-object wait c e) object; code = tt; end = ahead }) refl refl
         (λ b. in-order-with (λ j. m (task j) .priority) t (standing-in m c) n (place b) (priority .0) (priority .1) (w .waiting-in-order c b))
         (stands-join same-queue (w .waiting) c (update-other same-queue c l (standing-in m)) t (other-waits m c l t row) (ap wait-queue able) (own-wait m c l t row ∙ e) n (update-same same-queue c l (standing-in m))))
+
+  -- The wait of the head ends.
+  pub leave-head : (c : WaitQueue) (code : Code) (word : ℕ) → T (ends-a-wait code) → T (not (empty (standing-in m c)))
+      → WellFormedRows counter soonest (update same-key (task (headD (standing-in m c) 0)) (ended code word (m (task (headD (standing-in m c) 0)))) (set-standing c (tail (standing-in m c)) m))
+  leave-head c code word ends some-task = rw (without-head (standing-in m c) some-task) at (leave (headD (standing-in m c) 0) c code word ends (w .waiting .no-other (headD (standing-in m c) 0) c (in-head (standing-in m c) some-task)))
