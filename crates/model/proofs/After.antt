@@ -19,7 +19,7 @@ use Rattle.model.specs.WellFormed.{WaitQueue, senders-of, receivers-of, 
 use Rattle.model.specs.declared.Answer.{Answer}
 use Rattle.model.proofs.Tests.{cond-both}
 use Rattle.model.proofs.Standing.{message-cases, set-standing}
-use Rattle.model.proofs.RowMoves.{with-message-rows}
+use Rattle.model.proofs.RowMoves.{with-message-rows, own-messages}
 
 -- Q holds of the rows and the answer that the program leaves.
 pub record After (Q : Program.Rows Row → Answer → Type 0) (p : Effect) (m : Program.Rows Row) : Type 0 where
@@ -66,14 +66,7 @@ module _ {Q : Program.Rows Row → Answer → Type 0} where
 
   pub after-free-messages : (l : List ℕ) (p : Effect) (m : Program.Rows Row) → After Q p (with-message-rows (λ g. cond (one-of g l) free (m (message g))) m) → After Q (free-messages l p) m
   unfolding free-messages one-of same-key update
-  after-free-messages [] p m h = subst (After Q p) (fun-ext same) h
-    where
-      same : (k : Key) → with-message-rows (λ g. m (message g)) m k ≡ m k
-      same (task t) = refl
-      same (suspension t) = refl
-      same (queue q) = refl
-      same (mailbox b) = refl
-      same (message g) = refl
+  after-free-messages [] p m h = subst (After Q p) (own-messages m) h
   after-free-messages (g ∷ gs) p m h = after-put (after-free-messages gs p (update same-key (message g) free m) (subst (After Q p) (fun-ext same) h))
     where
       same : (k : Key) → with-message-rows (λ j. cond (eqb j g || one-of j gs) free (m (message j))) m k ≡ with-message-rows (λ j. cond (one-of j gs) free (update same-key (message g) free m (message j))) (update same-key (message g) free m) k

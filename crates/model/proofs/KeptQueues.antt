@@ -41,7 +41,7 @@ unfolding empty
 length-replaced [] word t = absurd t
 length-replaced (y ∷ l) word t = length-append l (word ∷ []) ∙ omega arith
 
-none-left : {l : List ℕ} → T (empty l) → l ≡ []
+pub none-left : {l : List ℕ} → T (empty l) → l ≡ []
 unfolding empty
 none-left {l = []} t = refl
 none-left {l = y ∷ l} t = absurd t

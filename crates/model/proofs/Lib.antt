@@ -13,3 +13,4 @@ pub mod MessageMoves
 pub mod After
 pub mod EndWaits
 pub mod KeptQueues
+pub mod KeptMailboxes

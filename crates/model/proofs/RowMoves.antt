@@ -25,6 +25,17 @@ with-message-rows messages m (queue q) = m (queue q)
 with-message-rows messages m (mailbox b) = m (mailbox b)
 with-message-rows messages m (message g) = messages g
 
+-- The rows' own messages change nothing.
+pub own-messages : (m : Program.Rows Row) → with-message-rows (λ g. m (message g)) m ≡ m
+own-messages m = fun-ext same
+  where
+    same : (k : Key) → with-message-rows (λ g. m (message g)) m k ≡ m k
+    same (task t) = refl
+    same (suspension t) = refl
+    same (queue q) = refl
+    same (mailbox b) = refl
+    same (message g) = refl
+
 -- The waiting tasks stand where they did.
 waiting-kept : (m n : Program.Rows Row) → ((d : WaitQueue) → standing-in m d ≡ standing-in n d) → ((t : ℕ) → wait-queue (m (task t) .wait) ≡ wait-queue (n (task t) .wait))
     → StandsWhereNamed (standing-in m) (λ t. wait-queue (m (task t) .wait)) → StandsWhereNamed (standing-in n) (λ t. wait-queue (n (task t) .wait))
