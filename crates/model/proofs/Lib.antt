@@ -14,3 +14,5 @@ pub mod After
 pub mod EndWaits
 pub mod KeptQueues
 pub mod KeptMailboxes
+pub mod KeptTasks
+pub mod Checked

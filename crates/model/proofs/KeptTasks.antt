@@ -1,0 +1,45 @@
+-- The calls on tasks keep the rows well-formed: by the moves.
+use mathlib.Core.Path.{_≡_, refl}
+use mathlib.Core.Bool.{Bool, true, false, not}
+use mathlib.Core.Option.{some}
+use Prim.Native.Nat.{ℕ, _≤_}
+use lib.Dec.{T}
+use Rattle.rows.specs.Program as Program
+use Rattle.rows.specs.Program.{put}
+use Rattle.model.specs.Sizes.{priority-limit}
+use Rattle.model.specs.Rows.{task, suspension, valid, Row, Effect}
+use Rattle.model.specs.Codes.{Code, E-OK, done}
+use Rattle.model.specs.Waits.{Wait, NoWait, Sending, Receiving, AtMailbox, able}
+use Rattle.model.specs.WaitQueues.{end-wait}
+use Rattle.model.specs.WellFormed.{WaitQueue, senders-of, receivers-of, waiters-of, wait-queue, ends-a-wait, WellFormedRows}
+use Rattle.model.proofs.WaitMoves.{leave}
+use Rattle.model.proofs.RowMoves.{put-task, put-suspension}
+use Rattle.model.proofs.After.{After, after-return, after-put, after-end-wait}
+use Rattle.model.proofs.KeptQueues.{Kept}
+
+-- A task that isn't able waits somewhere.
+pub record Somewhere (x : Wait) : Type 0 where
+  pub place : WaitQueue
+  pub named : wait-queue x ≡ some place
+
+pub waits-somewhere : (x : Wait) → T (not (able x)) → Somewhere x
+waits-somewhere NoWait t = absurd t
+waits-somewhere (Sending q end word) t = record { place = senders-of q; named = refl }
+waits-somewhere (Receiving q end) t = record { place = receivers-of q; named = refl }
+waits-somewhere (AtMailbox b end) t = record { place = waiters-of b; named = refl }
+
+module _ {counter : ℕ} {soonest : ℕ → ℕ} {m : Program.Rows Row} (w : WellFormedRows counter soonest m) (t : ℕ) (valid-task : T (valid (task t))) where
+  pub kept-define : (priority : ℕ) → T (not (m (task t) .defined)) → 1 ≤ priority → priority ≤ priority-limit
+      → After (Kept counter soonest) (put (task t) (record { defined = true; priority = priority; wait = NoWait; code = E-OK; word = 0 }) (put (suspension t) false done)) m
+  kept-define priority undefined low high =
+      after-put (after-put (after-return (put-suspension
+      (put-task w t _ valid-task (record { undefined = λ n. refl; priority-in-range = λ d. (low, high); object-in-range = tt; code = tt; end = tt }) tt refl (w .tasks t .undefined undefined))
+      t false valid-task (λ s. absurd s))))
+
+  pub kept-suspension : (suspended : Bool) → (T suspended → T (m (task t) .defined)) → After (Kept counter soonest) (put (suspension t) suspended done) m
+  kept-suspension suspended defined = after-put (after-return (put-suspension w t suspended valid-task defined))
+
+-- The wait of a task ends, and the rest of the program goes on from well-formed rows.
+pub kept-end-wait : {counter : ℕ} {soonest : ℕ → ℕ} {m : Program.Rows Row} (w : WellFormedRows counter soonest m) (t : ℕ) (code : Code) (p : Effect) → T (ends-a-wait code) → T (not (able (m (task t) .wait)))
+    → ((n : Program.Rows Row) → WellFormedRows counter soonest n → After (Kept counter soonest) p n) → After (Kept counter soonest) (end-wait t code p) m
+kept-end-wait {m = m} w t code p ends waits h = let s = waits-somewhere (m (task t) .wait) waits in after-end-wait t code (s .place) p m (s .named) (h _ (leave w t (s .place) code 0 ends (s .named)))
