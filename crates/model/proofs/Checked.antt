@@ -11,9 +11,9 @@ use mir.Facts.{T-not-not, and-yes, yes-and, eqb-no}
 use Rattle.lists.specs.Lists.{empty}
 use Rattle.model.specs.Sizes.{task-limit, capacity-limit, priority-limit, tmout-limit, counter-span, within}
 use Rattle.model.specs.Rows.{messages-by-priority}
-use Rattle.model.specs.Calls.{Call, View, calls, has-tmout, names-message, capacity-of, task-priority-of, highest-of, message-priority-of}
+use Rattle.model.specs.Calls.{Call, View, calls, creates, has-tmout, names-message, capacity-of, task-priority-of, highest-of, message-priority-of}
 use Rattle.model.specs.Waits.{Wait, NoWait, Sending, Receiving, AtMailbox, able, end-of}
-use Rattle.model.specs.Errors.{caller-cannot-call, task-only, called-by-handler, tmout-outside, attribute-outside, capacity-outside, task-priority-outside, highest-outside, message-priority-outside, wrong-state, nothing-to-drop, is-zero, polls, would-wait}
+use Rattle.model.specs.Errors.{caller-cannot-call, task-only, called-by-handler, tmout-outside, attribute-outside, capacity-outside, task-priority-outside, highest-outside, exists, missing, message-priority-outside, wrong-state, nothing-to-drop, is-zero, polls, would-wait}
 use Rattle.model.specs.WellFormed.{EndAhead}
 use Rattle.model.proofs.Tests.{neither-left, neither-right, not-both, not-both-left}
 use Rattle.model.proofs.Accepted.{Passes}
@@ -63,6 +63,14 @@ module _ {v : View} {c : Call} (p : Passes v c) where
 
   -- ── The rows in view ──
 
+  pub exists-not : T (creates c) → T (not (exists v c))
+  unfolding wrong-state
+  exists-not h = not-both (creates c) (exists v c) (search (p .step-6b, neither-left)) h
+
+  pub exists-already : T (not (creates c)) → T (exists v c)
+  unfolding missing
+  exists-already h = T-not-not (exists v c) (not-both (not (creates c)) (not (exists v c)) (p .step-5) h)
+
   -- A call of a task alone has a caller that can call.
   caller-fits : T (task-only c) → T (not (ltb task-limit (c .caller) || not (v .caller .defined) || not (able (v .caller .wait)) || v .caller-suspended))
   unfolding caller-cannot-call called-by-handler
@@ -84,6 +92,10 @@ module _ {v : View} {c : Call} (p : Passes v c) where
   pub message-free : T (names-message c) → T (eqb (v .the-message .queued-in) 0)
   unfolding wrong-state
   message-free h = T-not-not (eqb (v .the-message .queued-in) 0) (not-both (names-message c) (not (eqb (v .the-message .queued-in) 0)) (search (p .step-6b, neither-left, neither-right)) h)
+
+  pub task-waits : T (eqb (c .number) 19) → T (not (able (v .the-task .wait)))
+  unfolding wrong-state
+  task-waits h = not-both (eqb (c .number) 19) (able (v .the-task .wait)) (search (p .step-6b, neither-left, neither-right)) h
 
   pub something-to-drop : T (eqb (c .number) 7) → T (empty (v .the-queue .receivers)) → T (not (eqb (v .the-queue .capacity) 0))
   unfolding nothing-to-drop

@@ -16,3 +16,4 @@ pub mod KeptQueues
 pub mod KeptMailboxes
 pub mod KeptTasks
 pub mod Checked
+pub mod KeptCalls
