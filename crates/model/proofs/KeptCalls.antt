@@ -126,7 +126,7 @@ module _ (e : Environment) (c : Call) (inside : e .counter < counter-span) {m : 
       then for 16 prcv-mbx (λ a p. kept-receive-message w (c .object) (exists-already p tt) _ (λ n. after-return w))
       then for 17 trcv-mbx (λ a p. receive-message-kept (exists-already p tt) _ (λ n. can-wait 17 _ p tt (wait-ends p (e .counter) inside tt n)))
       then for 18 ref-mbx (λ a p. after-return w)
-      then for 19 rel-wai (λ a p. kept-end-wait w (c .object) E-RLWAI done tt (task-waits p tt) (λ n u. after-return u))
+      then for 19 rel-wai (λ a p. kept-end-wait w (c .object) E-RLWAI done tt (task-waits p tt) (λ n u no-wait. after-return u))
       then for 20 sus-tsk (λ a p. kept-suspension w (c .object) (a .suspension-in tt) true (λ s. search (exists-already p tt, only-left)))
       then for 21 rsm-tsk (λ a p. kept-suspension w (c .object) (a .suspension-in tt) false (λ s. absurd s))
       then for 22 look (λ a p. after-return w)

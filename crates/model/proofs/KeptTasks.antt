@@ -1,17 +1,21 @@
 -- The calls on tasks keep the rows well-formed: by the moves.
-use mathlib.Core.Path.{_≡_, refl}
+use mathlib.Core.Path.{_≡_, refl, ap}
 use mathlib.Core.Bool.{Bool, true, false, not}
 use mathlib.Core.Option.{some}
 use Prim.Native.Nat.{ℕ, _≤_}
 use lib.Dec.{T}
+use Rattle.lists.specs.Lists.{without}
 use Rattle.rows.specs.Program as Program
 use Rattle.rows.specs.Program.{put}
+use Rattle.rows.proofs.Update.{update-same}
 use Rattle.model.specs.Sizes.{priority-limit}
-use Rattle.model.specs.Rows.{task, suspension, valid, Row, Effect}
+use Rattle.model.specs.Rows.{task, suspension, same-key, valid, Row, TaskRow, Effect}
 use Rattle.model.specs.Codes.{Code, E-OK, done}
-use Rattle.model.specs.Waits.{Wait, NoWait, Sending, Receiving, AtMailbox, able}
+use Rattle.model.specs.Waits.{Wait, NoWait, Sending, Receiving, AtMailbox, able, ended}
 use Rattle.model.specs.WaitQueues.{end-wait}
-use Rattle.model.specs.WellFormed.{WaitQueue, senders-of, receivers-of, waiters-of, wait-queue, ends-a-wait, WellFormedRows}
+use Rattle.model.specs.WellFormed.{WaitQueue, senders-of, receivers-of, waiters-of, standing-in, wait-queue, ends-a-wait, WellFormedRows}
+use Rattle.model.specs.declared.Answer.{Answer}
+use Rattle.model.proofs.Standing.{set-standing}
 use Rattle.model.proofs.WaitMoves.{leave}
 use Rattle.model.proofs.RowMoves.{put-task, put-suspension}
 use Rattle.model.proofs.After.{After, after-return, after-put, after-end-wait}
@@ -39,7 +43,11 @@ module _ {counter : ℕ} {soonest : ℕ → ℕ} {m : Program.Rows Row} (w : Wel
   pub kept-suspension : (suspended : Bool) → (T suspended → T (m (task t) .defined)) → After (Kept counter soonest) (put (suspension t) suspended done) m
   kept-suspension suspended defined = after-put (after-return (put-suspension w t suspended valid-task defined))
 
--- The wait of a task ends, and the rest of the program goes on from well-formed rows.
-pub kept-end-wait : {counter : ℕ} {soonest : ℕ → ℕ} {m : Program.Rows Row} (w : WellFormedRows counter soonest m) (t : ℕ) (code : Code) (p : Effect) → T (ends-a-wait code) → T (not (able (m (task t) .wait)))
-    → ((n : Program.Rows Row) → WellFormedRows counter soonest n → After (Kept counter soonest) p n) → After (Kept counter soonest) (end-wait t code p) m
-kept-end-wait {m = m} w t code p ends waits h = let s = waits-somewhere (m (task t) .wait) waits in after-end-wait t code (s .place) p m (s .named) (h _ (leave w t (s .place) code 0 ends (s .named)))
+-- The wait of a task ends, and the rest of the program goes on from well-formed rows where it has none.
+pub kept-end-wait : {counter : ℕ} {soonest : ℕ → ℕ} {Q : Program.Rows Row → Answer → Type 0} {m : Program.Rows Row} → WellFormedRows counter soonest m → (t : ℕ) (code : Code) (p : Effect) → T (ends-a-wait code) → T (not (able (m (task t) .wait)))
+    → ((n : Program.Rows Row) → WellFormedRows counter soonest n → n (task t) .wait ≡ NoWait → After Q p n) → After Q (end-wait t code p) m
+kept-end-wait {m = m} w t code p ends waits h =
+    let s = waits-somewhere (m (task t) .wait) waits in
+    let rows = set-standing (s .place) (without t (standing-in m (s .place))) m in
+    after-end-wait t code (s .place) p m (s .named)
+    (h _ (leave w t (s .place) code 0 ends (s .named)) (ap (λ (x : TaskRow). x .wait) (update-same same-key (task t) (ended code 0 (m (task t))) rows)))

@@ -17,3 +17,4 @@ pub mod KeptMailboxes
 pub mod KeptTasks
 pub mod Checked
 pub mod KeptCalls
+pub mod KeptTick
