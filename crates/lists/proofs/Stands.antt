@@ -9,7 +9,7 @@ use Prim.Native.Nat.{ℕ, zero, suc}
 use native.Mathlib.Decide.{ℕ-discrete}
 use lib.Dec.{T}
 use borrow.Author.Tests.{eq-eqb}
-use Rattle.lists.specs.Lists.{empty, insert-at, remove-at, ahead, without, Once, nothing, once, StandsWhereNamed}
+use Rattle.lists.specs.Lists.{Each, none as none-left, both, empty, insert-at, remove-at, ahead, without, Once, nothing, once, StandsWhereNamed}
 use Rattle.lists.specs.Tests.{Whether, holds, fails}
 use Rattle.lists.proofs.Members.{in-inserted, in-insert-old, in-insert-cases, in-remove-old, in-remove-other, is-one-of}
 use Rattle.lists.proofs.Places.{at-ahead, ahead-in}
@@ -74,7 +74,20 @@ pub map-members : {X : Type 0} (f g : ℕ → X) (l : List ℕ) → ((x : ℕ) �
 map-members f g [] h = refl
 map-members f g (x ∷ l) h = cc (h x (here refl), map-members f g l (λ y i. h y (there i)))
 
+-- What holds of the members of a list holds of every element.
+pub each-member : {P : ℕ → Type 0} (l : List ℕ) → ((x : ℕ) → In x l → P x) → Each P l
+each-member [] h = none-left
+each-member (x ∷ l) h = both (h x (here refl)) (each-member l (λ y i. h y (there i)))
+
 -- ── One list of many ──
+
+-- Empty lists, named by no number.
+pub stands-nowhere : {K : Type 0} {lists : K → List ℕ} {named : ℕ → Option K} → ((k : K) → lists k ≡ []) → ((x : ℕ) → named x ≡ none) → StandsWhereNamed lists named
+stands-nowhere no-list no-name = record {
+  in-named = λ x k e. absurd (Option·none-ne-some k (sym (no-name x) ∙ e));
+  no-other = λ x k i. absurd (List·Memᴰ·not-nil (rw (no-list k) at i));
+  no-twice = λ k. rw (no-list k) nothing;
+}
 
 -- The list c changes.
 module _ {K : Type 0} (same : Discrete K) {lists lists′ : K → List ℕ} {named named′ : ℕ → Option K} (s : StandsWhereNamed lists named) (c : K)

@@ -18,3 +18,4 @@ pub mod KeptTasks
 pub mod Checked
 pub mod KeptCalls
 pub mod KeptTick
+pub mod WellFormed
