@@ -18,7 +18,7 @@ use Rattle.model.specs.WaitQueues.{end-waits}
 use Rattle.model.specs.WellFormed.{WaitQueue, senders-of, receivers-of, waiters-of, standing-in, wait-queue, ends-a-wait, WellFormedRows}
 use Rattle.model.specs.declared.Answer.{Answer}
 use Rattle.model.proofs.Standing.{same-queue, changed, set-standing, set-standing-is}
-use Rattle.model.proofs.WaitMoves.{moved, leave}
+use Rattle.model.proofs.WaitMoves.{standing-moved, leave}
 use Rattle.model.proofs.After.{After, after-end-wait}
 
 -- Rows n are rows m with wait queue c emptied: what is read of them.
@@ -34,13 +34,7 @@ module _ (code : Code) where
     left = update same-key (task t) (ended code 0 (m (task t))) (set-standing c l m)
 
     standing-left : (d : WaitQueue) → standing-in left d ≡ changed same-queue c l (standing-in m) d
-    unfolding same-key update
-    standing-left d = rw (set-standing-is c l m) (read d)
-      where
-        read : (d : WaitQueue) → standing-in (moved m c l t (ended code 0 (m (task t)))) d ≡ changed same-queue c l (standing-in m) d
-        read (senders-of q) = refl
-        read (receivers-of q) = refl
-        read (waiters-of b) = refl
+    standing-left d = rw (set-standing-is c l m) (standing-moved m c l t (ended code 0 (m (task t))) d)
 
     messages-left : (b : ℕ) → left (mailbox b) .messages ≡ m (mailbox b) .messages
     unfolding same-key update

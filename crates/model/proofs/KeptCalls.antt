@@ -20,7 +20,8 @@ use Rattle.model.specs.Mailboxes.{wait-for-message, receive-message, cre
 use Rattle.model.specs.Tasks.{define-task, rel-wai, sus-tsk, rsm-tsk, look, fetch}
 use Rattle.model.specs.Step.{effects, effect, no-call}
 use Rattle.model.specs.WellFormed.{EndAhead, WellFormedRows}
-use Rattle.model.proofs.Tests.{neither-left, or-left, cond-yes}
+use Rattle.model.proofs.Tests.{neither-left, or-left}
+use Rattle.model.proofs.Choices.{only-left, cond-yes}
 use Rattle.model.proofs.Step.{numbered}
 use Rattle.model.proofs.Accepted.{Passes, Accepted}
 use Rattle.model.proofs.Checked.{queue-attribute, queue-capacity, mailbox-attribute, mailbox-highest, task-priority, exists-not, exists-already, caller-defined, caller-able, message-priority, message-free, task-waits, something-to-drop, wait-ends}
@@ -67,10 +68,6 @@ view-seen m c a = λ i. record {
   the-mailbox = named-row (λ n. valid (mailbox n)) (λ n. m (mailbox n)) no-mailbox (names-mailbox c) (c .object) (a .mailbox-in) i;
   the-message = named-row (λ n. valid (message n)) (λ n. m (message n)) free (names-message c) (message-of c) (a .message-in) i;
 }
-
-only-left : (b : Bool) → T (b || false) → T b
-only-left true t = tt
-only-left false t = absurd t
 
 -- ── Every call, by number ──
 

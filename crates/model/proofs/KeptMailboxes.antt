@@ -16,7 +16,7 @@ use Rattle.model.specs.Waits.{End, AtMailbox}
 use Rattle.model.specs.WaitQueues.{place, release, end-waits}
 use Rattle.model.specs.Mailboxes.{free-messages, deliver-message, queue-message, take-message, wait-for-message, send-message, receive-message}
 use Rattle.model.specs.WellFormed.{waiters-of, named-mailbox, WellFormedRows}
-use Rattle.model.proofs.Tests.{cond-yes}
+use Rattle.model.proofs.Choices.{cond-yes}
 use Rattle.model.proofs.Standing.{mailbox-cases, set-standing}
 use Rattle.model.proofs.WaitMoves.{defined-mailbox, leave-head, join}
 use Rattle.model.proofs.RowMoves.{with-message-rows, own-messages, put-mailbox}

@@ -20,7 +20,7 @@ use Rattle.model.specs.WaitQueues.{place, release, end-waits}
 use Rattle.model.specs.DataQueues.{deliver, store, replace-oldest, wait-to-send, send, take-oldest, take-oldest-and-refill, take-from-sender, wait-to-receive, receive}
 use Rattle.model.specs.WellFormed.{senders-of, receivers-of, EndAhead, WellFormedRows}
 use Rattle.model.specs.declared.Answer.{Answer}
-use Rattle.model.proofs.Tests.{cond-yes}
+use Rattle.model.proofs.Choices.{cond-yes}
 use Rattle.model.proofs.Standing.{put-twice, set-standing}
 use Rattle.model.proofs.WaitMoves.{defined-queue, leave-head, join}
 use Rattle.model.proofs.RowMoves.{put-queue}

@@ -6,6 +6,7 @@ pub mod Accepted
 pub mod Footprints
 pub mod Refusals
 pub mod Isolation
+pub mod Choices
 pub mod Standing
 pub mod WaitMoves
 pub mod RowMoves

@@ -20,7 +20,8 @@ use Rattle.rows.proofs.Update.{update-same, update-other, update-cases}
 use Rattle.model.specs.Sizes.{mailbox-limit}
 use Rattle.model.specs.Rows.{Key, task, suspension, queue, mailbox, message, same-key, valid, Row, MailboxRow, MessageRow, messages-by-priority, no-mailbox, free, with-messages}
 use Rattle.model.specs.WellFormed.{waiters-of, named-mailbox, MailboxWellFormed, WellFormedRows}
-use Rattle.model.proofs.Tests.{cond-yes, cond-no, cond-both}
+use Rattle.model.proofs.Tests.{cond-no, cond-both}
+use Rattle.model.proofs.Choices.{cond-yes, cond-member, cond-no-member}
 use Rattle.model.proofs.Standing.{changed, message-cases}
 use Rattle.model.proofs.WaitMoves.{is-valid, in-order-with, in-order-without}
 use Rattle.model.proofs.RowMoves.{with-message-rows, put-mailbox}
@@ -28,22 +29,6 @@ use Rattle.model.proofs.RowMoves.{with-message-rows, put-mailbox}
 -- A mailbox's number isn't 0.
 names-mailbox : (b p : ℕ) → T (valid (mailbox b)) → named-mailbox (record { queued-in = b; priority = p }) ≡ some b
 names-mailbox b p t = cond-no (eqb b 0) none (some b) (no-eqb (λ (e : b ≡ 0). let h = leb→le 1 b (and-yes (leb 1 b) (leb b mailbox-limit) t .0) in omega arith))
-
--- What a list's members, and what other numbers get.
-module _ {X : Type 0} (g : ℕ) (l : List ℕ) (x y : X) where
-  member : In g l → cond (one-of g l) x y ≡ x
-  member i = go (is-one-of g l)
-    where
-      go : {b : Bool} → Whether (In g l) b → cond b x y ≡ x
-      go (holds j) = refl
-      go (fails f) = absurd (f i)
-
-  no-member : (In g l → ⊥) → cond (one-of g l) x y ≡ y
-  no-member f = go (is-one-of g l)
-    where
-      go : {b : Bool} → Whether (In g l) b → cond b x y ≡ y
-      go (holds j) = absurd (f j)
-      go (fails n) = refl
 
 -- ── One message ──
 
@@ -157,10 +142,10 @@ module _ {counter : ℕ} {soonest : ℕ → ℕ} {m : Program.Rows Row} (w : Wel
       (λ g n. cond-both (one-of g old) free (m (message g)) refl (λ d. w .in-range (message g) n))
       (stands-clear ℕ-discrete (w .queued) b
       (λ j n. ap (λ (y : MailboxRow). y .messages) (update-other same-key (mailbox b) no-mailbox m (mailbox j) (λ e. n (cc))))
-      (λ g i. ap named-mailbox (member g old free (m (message g)) i)) (λ g f. ap named-mailbox (no-member g old free (m (message g)) f))
+      (λ g i. ap named-mailbox (cond-member g old free (m (message g)) i)) (λ g f. ap named-mailbox (cond-no-member g old free (m (message g)) f))
       (ap (λ (y : MailboxRow). y .messages) (update-same same-key (mailbox b) no-mailbox m)))
       (λ q. no-key)
-      (λ j g n i. ap (λ (y : MessageRow). y .priority) (sym (no-member g old free (m (message g)) (λ h. n (Option·some-injective j b (sym (w .queued .no-other g j i) ∙ w .queued .no-other g b h))))))
+      (λ j g n i. ap (λ (y : MessageRow). y .priority) (sym (cond-no-member g old free (m (message g)) (λ h. n (Option·some-injective j b (sym (w .queued .no-other g j i) ∙ w .queued .no-other g b h))))))
     where
       old : List ℕ
       old = m (mailbox b) .messages

@@ -1,6 +1,6 @@
 -- A row put with the wait queues as they were, and a mailbox's row put with its messages', keep the rows well-formed: sentence by sentence, what isn't touched
 -- being read by computing.
-use mathlib.Core.Path.{_≡_, refl, sym, _∙_, ap, subst₂, fun-ext}
+use mathlib.Core.Path.{_≡_, refl, sym, _∙_, ap, subst, subst₂, fun-ext}
 use mathlib.Core.Bool.{Bool, not}
 use mathlib.Core.List.{map, List·Memᴰ as In}
 use mathlib.Core.Logic.{_≢_}
@@ -35,6 +35,18 @@ own-messages m = fun-ext same
     same (queue q) = refl
     same (mailbox b) = refl
     same (message g) = refl
+
+-- Rows with the same objects have the same wait queues, in the same order.
+module _ (m n : Program.Rows Row) (queues : (q : ℕ) → m (queue q) ≡ n (queue q)) (mailboxes : (b : ℕ) → m (mailbox b) ≡ n (mailbox b)) where
+  same-standing : (d : WaitQueue) → standing-in m d ≡ standing-in n d
+  same-standing (senders-of q) = ap (λ (x : QueueRow). x .senders) (queues q)
+  same-standing (receivers-of q) = ap (λ (x : QueueRow). x .receivers) (queues q)
+  same-standing (waiters-of b) = ap (λ (x : MailboxRow). x .waiters) (mailboxes b)
+
+  same-order : (f : ℕ → ℕ) → ((d : WaitQueue) → T (by-priority m d) → InOrder 1 priority-limit (map f (standing-in m d))) → (d : WaitQueue) → T (by-priority n d) → InOrder 1 priority-limit (map f (standing-in n d))
+  same-order f order (senders-of q) = subst (λ (x : QueueRow). T (senders-by-priority (x .attribute)) → InOrder 1 priority-limit (map f (x .senders))) (queues q) (order (senders-of q))
+  same-order f order (receivers-of q) = λ p. absurd p
+  same-order f order (waiters-of b) = subst (λ (x : MailboxRow). T (waiters-by-priority (x .attribute)) → InOrder 1 priority-limit (map f (x .waiters))) (mailboxes b) (order (waiters-of b))
 
 -- The waiting tasks stand where they did.
 waiting-kept : (m n : Program.Rows Row) → ((d : WaitQueue) → standing-in m d ≡ standing-in n d) → ((t : ℕ) → wait-queue (m (task t) .wait) ≡ wait-queue (n (task t) .wait))
@@ -79,27 +91,20 @@ module _ {counter : ℕ} {soonest : ℕ → ℕ} {m : Program.Rows Row} (w : Wel
     suspensions = λ j. task-cases t m (λ i x. T (m (suspension i)) → T (x .defined)) v (λ s. defined) j (λ n. w .suspensions j);
     queues = w .queues;
     mailboxes = w .mailboxes;
-    waiting = waiting-kept m (update same-key (task t) v m) same (λ j. task-cases t m (λ i x. wait-queue (m (task i) .wait) ≡ wait-queue (x .wait)) v (ap wait-queue (before ∙ sym after)) j (λ n. refl)) (w .waiting);
-    waiting-in-order = in-order;
+    waiting = waiting-kept m n (same-standing m n (λ q. refl) (λ b. refl)) (λ j. task-cases t m (λ i x. wait-queue (m (task i) .wait) ≡ wait-queue (x .wait)) v (ap wait-queue (before ∙ sym after)) j (λ n. refl)) (w .waiting);
+    waiting-in-order = same-order m n (λ q. refl) (λ b. refl) (λ j. n (task j) .priority) in-order;
     queued = w .queued;
     queued-in-order = w .queued-in-order;
   }
     where
-      same : (d : WaitQueue) → standing-in m d ≡ standing-in (update same-key (task t) v m) d
-      same (senders-of q) = refl
-      same (receivers-of q) = refl
-      same (waiters-of b) = refl
+      n : Program.Rows Row
+      n = update same-key (task t) v m
 
-      priority : (d : WaitQueue) (j : ℕ) → In j (standing-in m d) → update same-key (task t) v m (task j) .priority ≡ m (task j) .priority
+      priority : (d : WaitQueue) (j : ℕ) → In j (standing-in m d) → n (task j) .priority ≡ m (task j) .priority
       priority d j = task-cases t m (λ i x. In i (standing-in m d) → x .priority ≡ m (task i) .priority) v (λ i. absurd (Option·none-ne-some d (ap wait-queue (sym before) ∙ w .waiting .no-other t d i))) j (λ n i. refl)
 
-      kept : (d : WaitQueue) → T (by-priority m d) → InOrder 1 priority-limit (map (λ j. update same-key (task t) v m (task j) .priority) (standing-in m d))
-      kept d p = rw (map-members (λ j. update same-key (task t) v m (task j) .priority) (λ j. m (task j) .priority) (standing-in m d) (priority d)) (w .waiting-in-order d p)
-
-      in-order : (d : WaitQueue) → T (by-priority (update same-key (task t) v m) d) → InOrder 1 priority-limit (map (λ j. update same-key (task t) v m (task j) .priority) (standing-in (update same-key (task t) v m) d))
-      in-order (senders-of q) = kept (senders-of q)
-      in-order (receivers-of q) = kept (receivers-of q)
-      in-order (waiters-of b) = kept (waiters-of b)
+      in-order : (d : WaitQueue) → T (by-priority m d) → InOrder 1 priority-limit (map (λ j. n (task j) .priority) (standing-in m d))
+      in-order d p = rw (map-members (λ j. n (task j) .priority) (λ j. m (task j) .priority) (standing-in m d) (priority d)) (w .waiting-in-order d p)
 
   -- A suspension of a defined task, or none.
   pub put-suspension : (t : ℕ) (v : Bool) → T (valid (suspension t)) → (T v → T (m (task t) .defined)) → WellFormedRows counter soonest (update same-key (suspension t) v m)
@@ -110,21 +115,14 @@ module _ {counter : ℕ} {soonest : ℕ → ℕ} {m : Program.Rows Row} (w : Wel
     suspensions = λ j. suspension-cases t m (λ i s. T s → T (m (task i) .defined)) v defined j (λ n. w .suspensions j);
     queues = w .queues;
     mailboxes = w .mailboxes;
-    waiting = waiting-kept m (update same-key (suspension t) v m) same (λ j. refl) (w .waiting);
-    waiting-in-order = in-order;
+    waiting = waiting-kept m n (same-standing m n (λ q. refl) (λ b. refl)) (λ j. refl) (w .waiting);
+    waiting-in-order = same-order m n (λ q. refl) (λ b. refl) (λ j. m (task j) .priority) (w .waiting-in-order);
     queued = w .queued;
     queued-in-order = w .queued-in-order;
   }
     where
-      same : (d : WaitQueue) → standing-in m d ≡ standing-in (update same-key (suspension t) v m) d
-      same (senders-of q) = refl
-      same (receivers-of q) = refl
-      same (waiters-of b) = refl
-
-      in-order : (d : WaitQueue) → T (by-priority (update same-key (suspension t) v m) d) → InOrder 1 priority-limit (map (λ j. m (task j) .priority) (standing-in (update same-key (suspension t) v m) d))
-      in-order (senders-of q) = w .waiting-in-order (senders-of q)
-      in-order (receivers-of q) = w .waiting-in-order (receivers-of q)
-      in-order (waiters-of b) = w .waiting-in-order (waiters-of b)
+      n : Program.Rows Row
+      n = update same-key (suspension t) v m
 
   -- A mailbox's row, with its waiters as they were, and all messages' rows. The messages of the other mailboxes keep their priorities.
   pub put-mailbox : (b : ℕ) (v : MailboxRow) (messages : ℕ → MessageRow) → T (valid (mailbox b)) → MailboxWellFormed v → v .waiters ≡ m (mailbox b) .waiters

@@ -1,5 +1,5 @@
--- What is read of the rows when a wait queue or a task's row has changed: the rows with all wait queues, or all tasks, given by a function, so that every
--- other part of a row is read by computing.
+-- What is read of the rows when one row or one wait queue has changed: row by row of a kind, and with the wait queues given by a function, so that every other
+-- part of a row is read by computing.
 use mathlib.Core.Path.{_≡_, refl, sym, _∙_, ap, fun-ext, pathJ′, subst}
 use mathlib.Core.Bool.{Bool, not}
 use mathlib.Core.List.{List}

@@ -10,9 +10,8 @@ use Rattle.model.specs.Rows.{Key, task, suspension, queue, mailbox, mess
 use Rattle.model.specs.Codes.{finished}
 use Rattle.model.specs.Calls.{Call, View, row-if-valid, read-if-valid, read-view, view-of}
 use Rattle.model.specs.Errors.{refused, refusal}
-use Rattle.model.specs.Tasks.{tick}
 use Rattle.model.specs.Step.{program, effect, call, step}
-use Rattle.model.proofs.Tests.{cond-yes, cond-no}
+use Rattle.model.proofs.Tests.{cond-no}
 
 run-read-if-valid : (k : Key) (f : Row k → Effect) (m : Program.Rows Row) → run same-key (read-if-valid k f) m ≡ run same-key (f (row-if-valid m k)) m
 unfolding read-if-valid run
@@ -38,11 +37,6 @@ run-refused e c m t = run-read-view c _ m ∙ (run-yes same-key _ _ _ m t ∙ ru
 pub run-accepted : (e : Environment) (c : Call) (m : Program.Rows Row) → T (not (refused true (view-of m c) c)) → run same-key (program e c) m ≡ run same-key (effect e (view-of m c) c) m
 unfolding program
 run-accepted e c m t = run-read-view c _ m ∙ run-no same-key _ _ _ m t
-
--- Number 0 is the tick.
-pub step-tick : (m : Model) (c : Call) → T (eqb (c .number) 0) → step m c ≡ tick m
-unfolding step
-step-tick m c t = cond-yes (eqb (c .number) 0) _ _ t
 
 -- A call that is no tick is its program's step.
 pub step-call : (m : Model) (c : Call) → T (not (eqb (c .number) 0)) → step m c ≡ step-of same-key program m c

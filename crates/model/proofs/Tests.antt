@@ -26,10 +26,6 @@ pub or-left : (a b : Bool) → T a → T (a || b)
 or-left true b t = tt
 or-left false b t = absurd t
 
-pub cond-yes : {X : Type 0} (b : Bool) (x y : X) → T b → cond b x y ≡ x
-cond-yes true x y t = refl
-cond-yes false x y t = absurd t
-
 pub cond-no : {X : Type 0} (b : Bool) (x y : X) → T (not b) → cond b x y ≡ y
 cond-no true x y t = absurd t
 cond-no false x y t = refl

@@ -42,6 +42,12 @@ module _ (m : Program.Rows Row) (c : WaitQueue) (l : List ℕ) (t : ℕ) (row : 
   abbrev pub moved : Program.Rows Row
   moved = update same-key (task t) row (with-standing lists m)
 
+  pub standing-moved : (d : WaitQueue) → standing-in moved d ≡ lists d
+  unfolding same-key update
+  standing-moved (senders-of q) = refl
+  standing-moved (receivers-of q) = refl
+  standing-moved (waiters-of b) = refl
+
   own-wait : wait-queue (moved (task t) .wait) ≡ wait-queue (row .wait)
   own-wait = ap (λ (x : TaskRow). wait-queue (x .wait)) (update-same same-key (task t) row (with-standing lists m))
 
@@ -93,17 +99,12 @@ module _ (m : Program.Rows Row) (c : WaitQueue) (l : List ℕ) (t : ℕ) (row : 
       suspensions = λ j. task-cases t (with-standing lists m) (λ i x. T (m (suspension i)) → T (x .defined)) row (λ h. rw same-defined (w .suspensions t h)) j (λ n. w .suspensions j);
       queues = queues c objects;
       mailboxes = λ b. objects (waiters-of b);
-      waiting = subst (λ (f : WaitQueue → List ℕ). StandsWhereNamed f (λ j. wait-queue (moved (task j) .wait))) (fun-ext read) stands;
+      waiting = subst (λ (f : WaitQueue → List ℕ). StandsWhereNamed f (λ j. wait-queue (moved (task j) .wait))) (fun-ext (λ d. sym (standing-moved d))) stands;
       waiting-in-order = order-read;
       queued = w .queued;
       queued-in-order = w .queued-in-order;
     }
       where
-        read : (d : WaitQueue) → lists d ≡ standing-in moved d
-        read (senders-of q) = refl
-        read (receivers-of q) = refl
-        read (waiters-of b) = refl
-
         order-read : (k : WaitQueue) → T (by-priority moved k) → InOrder 1 priority-limit (map (λ j. moved (task j) .priority) (standing-in moved k))
         order-read (senders-of q) = in-order (senders-of q)
         order-read (receivers-of q) = in-order (receivers-of q)

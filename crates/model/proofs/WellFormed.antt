@@ -16,12 +16,13 @@ use Rattle.model.specs.Sizes.{priority-limit}
 use Rattle.model.specs.Calls.{Call, view-of}
 use Rattle.model.specs.Waits.{Wait, NoWait, Sending, Receiving, AtMailbox}
 use Rattle.model.specs.Errors.{refused}
-use Rattle.model.specs.Step.{step, program}
+use Rattle.model.specs.Tasks.{tick}
+use Rattle.model.specs.Step.{call, step, program}
 use Rattle.model.specs.Isolation.{WaitsAt, QueuedAt, Linked}
 use Rattle.model.specs.WellFormed.{WaitQueue, senders-of, receivers-of, waiters-of, standing-in, by-priority, wait-queue, named-mailbox, WellFormedRows, WellFormed, KeptWellFormed, EmptyWellFormed, WellFormedLinked}
 use Rattle.model.specs.declared.Answer.{Answer}
-use Rattle.model.proofs.Tests.{cond-yes}
-use Rattle.model.proofs.Step.{step-tick, step-call, run-refused, run-accepted}
+use Rattle.model.proofs.Choices.{cond-yes}
+use Rattle.model.proofs.Step.{step-call, run-refused, run-accepted}
 use Rattle.model.proofs.Accepted.{passes, accepted}
 use Rattle.model.proofs.WaitMoves.{object-of}
 use Rattle.model.proofs.KeptQueues.{Kept}
@@ -40,6 +41,11 @@ kept-program m c w = go (refused true (view-of (m .rows) c) c) (λ r. r) (λ r. 
     go false yes-case no-case = let ok = no-case tt in
         rw (run-accepted (m .environment) c (m .rows) ok)
         (kept-accepted (m .environment) c (w .counter-in-range) (w .rows) (accepted Valid (view-of (m .rows) c) c (each-of-all (λ k t. t) _) ok) (passes (view-of (m .rows) c) c ok) .holds)
+
+-- Number 0 is the tick.
+step-tick : (m : Model) (c : Call) → T (eqb (c .number) 0) → step m c ≡ tick m
+unfolding step
+step-tick m c t = cond-yes (eqb (c .number) 0) (tick m) (call m c) t
 
 pub kept-well-formed : KeptWellFormed
 unfolding step-of
@@ -72,6 +78,7 @@ empty-well-formed counter inside = record {
     no-task-waits (senders-of q) = refl
     no-task-waits (receivers-of q) = refl
     no-task-waits (waiters-of b) = refl
+
     in-order : (d : WaitQueue) → T (by-priority no-rows d) → InOrder 1 priority-limit (map (λ t. no-task .priority) (standing-in no-rows d))
     in-order (senders-of q) p = no-key
     in-order (receivers-of q) p = no-key
