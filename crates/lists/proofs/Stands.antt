@@ -58,6 +58,12 @@ unfolding without ahead remove-at headD empty
 without-head [] t = absurd t
 without-head (x ∷ l) t = rw (eq-eqb x x refl)
 
+-- A list that tests empty is empty.
+pub empty-nil : {l : List ℕ} → T (empty l) → l ≡ []
+unfolding empty
+empty-nil {l = []} t = refl
+empty-nil {l = x ∷ l} t = absurd t
+
 -- From an empty list nothing is taken out.
 pub without-none : (x : ℕ) → without x [] ≡ []
 unfolding without ahead remove-at

@@ -15,15 +15,19 @@ use Rattle.model.specs.Codes.{Code}
 use Rattle.model.specs.Waits.{Wait, NoWait, Sending, Receiving, AtMailbox, ended}
 use Rattle.model.specs.WaitQueues.{take-out, end-wait}
 use Rattle.model.specs.Mailboxes.{free-messages}
-use Rattle.model.specs.WellFormed.{WaitQueue, senders-of, receivers-of, waiters-of, standing-in, wait-queue}
+use Rattle.model.specs.WellFormed.{WaitQueue, senders-of, receivers-of, waiters-of, standing-in, wait-queue, WellFormedRows}
 use Rattle.model.specs.declared.Answer.{Answer}
 use Rattle.model.proofs.Tests.{cond-both}
 use Rattle.model.proofs.Standing.{message-cases, set-standing}
-use Rattle.model.proofs.RowMoves.{with-message-rows, own-messages}
+use Rattle.model.proofs.RowMoves.{with-message-rows, freed, own-messages}
 
 -- Q holds of the rows and the answer that the program leaves.
 pub record After (Q : Program.Rows Row → Answer → Type 0) (p : Effect) (m : Program.Rows Row) : Type 0 where
   pub holds : Q (run same-key p m .state) (run same-key p m .answer)
+
+-- The rows that are left are well-formed, whatever the answer.
+abbrev pub Kept : ℕ → (ℕ → ℕ) → Program.Rows Row → Answer → Type 0
+Kept counter soonest n a = WellFormedRows counter soonest n
 
 module _ {Q : Program.Rows Row → Answer → Type 0} where
   -- ── The forms of a program ──
@@ -64,12 +68,12 @@ module _ {Q : Program.Rows Row → Answer → Type 0} where
   unfolding end-wait
   after-end-wait t code c p m e h = after-get (after-take-out t (m (task t) .wait) c _ m e (after-put h))
 
-  pub after-free-messages : (l : List ℕ) (p : Effect) (m : Program.Rows Row) → After Q p (with-message-rows (λ g. cond (one-of g l) free (m (message g))) m) → After Q (free-messages l p) m
+  pub after-free-messages : (l : List ℕ) (p : Effect) (m : Program.Rows Row) → After Q p (with-message-rows (freed l m) m) → After Q (free-messages l p) m
   unfolding free-messages one-of same-key update
   after-free-messages [] p m h = subst (After Q p) (own-messages m) h
   after-free-messages (g ∷ gs) p m h = after-put (after-free-messages gs p (update same-key (message g) free m) (subst (After Q p) (fun-ext same) h))
     where
-      same : (k : Key) → with-message-rows (λ j. cond (eqb j g || one-of j gs) free (m (message j))) m k ≡ with-message-rows (λ j. cond (one-of j gs) free (update same-key (message g) free m (message j))) (update same-key (message g) free m) k
+      same : (k : Key) → with-message-rows (freed (g ∷ gs) m) m k ≡ with-message-rows (freed gs (update same-key (message g) free m)) (update same-key (message g) free m) k
       same (task t) = refl
       same (suspension t) = refl
       same (queue q) = refl

@@ -15,7 +15,7 @@ use Rattle.model.specs.Rows.{task, mailbox, same-key, Row, Effect}
 use Rattle.model.specs.Codes.{Code}
 use Rattle.model.specs.Waits.{ended}
 use Rattle.model.specs.WaitQueues.{end-waits}
-use Rattle.model.specs.WellFormed.{WaitQueue, senders-of, receivers-of, waiters-of, standing-in, wait-queue, ends-a-wait, WellFormedRows}
+use Rattle.model.specs.WellFormed.{WaitQueue, standing-in, wait-queue, ends-a-wait, WellFormedRows}
 use Rattle.model.specs.declared.Answer.{Answer}
 use Rattle.model.proofs.Standing.{same-queue, changed, set-standing, set-standing-is}
 use Rattle.model.proofs.WaitMoves.{standing-moved, leave}

@@ -1,6 +1,6 @@
 -- Every accepted call keeps the rows well-formed: by number, a line for each call.
 use mathlib.Core.Path.{_≡_, refl, sym, subst}
-use mathlib.Core.Bool.{Bool, true, false, not, _||_, cond}
+use mathlib.Core.Bool.{Bool, true, false, not, cond}
 use Prim.Native.Nat.{ℕ, _≤_, _<_}
 use native.Mathlib.Omega.{arith}
 use lib.Dec.{T, leb, leb→le}
@@ -11,7 +11,7 @@ use Rattle.lists.proofs.Positions.{EachNumbered, _then_, at-number}
 use Rattle.rows.specs.Program as Program
 use Rattle.model.specs.Sizes.{call-limit, counter-span, within}
 use Rattle.model.specs.Rows.{Key, task, suspension, queue, mailbox, message, valid, Row, Environment, Effect, no-task, no-queue, no-mailbox, free, has-room}
-use Rattle.model.specs.Codes.{E-RLWAI, done}
+use Rattle.model.specs.Codes.{E-RLWAI}
 use Rattle.model.specs.Calls.{Call, View, word-of, names-task, names-queue, names-mailbox, names-message, message-of, view-of}
 use Rattle.model.specs.Waits.{End, Never}
 use Rattle.model.specs.Errors.{unknown, exists, task-only, would-wait}
@@ -25,10 +25,10 @@ use Rattle.model.proofs.Choices.{only-left, cond-yes}
 use Rattle.model.proofs.Step.{numbered}
 use Rattle.model.proofs.Accepted.{Passes, Accepted}
 use Rattle.model.proofs.Checked.{queue-attribute, queue-capacity, mailbox-attribute, mailbox-highest, task-priority, exists-not, exists-already, caller-defined, caller-able, message-priority, message-free, task-waits, something-to-drop, wait-ends}
-use Rattle.model.proofs.After.{After, after-return}
-use Rattle.model.proofs.KeptQueues.{Kept, CanWait, kept-send, kept-replace-oldest, kept-wait-to-send, kept-receive, kept-wait-to-receive, kept-create-queue, kept-delete-queue}
+use Rattle.model.proofs.After.{After, after-return, Kept}
+use Rattle.model.proofs.KeptQueues.{CanWait, kept-send, kept-replace-oldest, kept-wait-to-send, kept-receive, kept-wait-to-receive, kept-create-queue, kept-delete-queue}
 use Rattle.model.proofs.KeptMailboxes.{kept-send-message, kept-receive-message, kept-wait-for-message, kept-create-mailbox, kept-delete-mailbox}
-use Rattle.model.proofs.KeptTasks.{kept-define, kept-suspension, kept-end-wait}
+use Rattle.model.proofs.KeptTasks.{kept-define-task, kept-sus-tsk, kept-rsm-tsk, kept-end-wait}
 
 -- ── The view of an accepted call shows the state's own rows ──
 
@@ -105,9 +105,9 @@ module _ (e : Environment) (c : Call) (inside : e .counter < counter-span) {m : 
   unfolding EachNumbered effects one-of unknown exists would-wait
   kept-effects =
       for 0 no-call (λ a p. absurd (p .step-0))
-      then for 1 define-task (λ a p. kept-define w (c .object) (a .task-in tt) (c .value) (search (exists-not p tt, neither-left)) (task-priority p tt .0) (task-priority p tt .1))
-      then for 2 cre-dtq (λ a p. kept-create-queue w (c .object) (c .attribute) (c .value) (a .queue-in tt) (search (exists-not p tt, neither-left)) (queue-attribute p tt) (queue-capacity p tt))
-      then for 3 del-dtq (λ a p. kept-delete-queue w (c .object) (search (exists-already p tt, only-left)))
+      then for 1 define-task (λ a p. kept-define-task w e v c (a .task-in tt) (search (exists-not p tt, neither-left)) (task-priority p tt .0) (task-priority p tt .1))
+      then for 2 cre-dtq (λ a p. kept-create-queue w e v c (a .queue-in tt) (search (exists-not p tt, neither-left)) (queue-attribute p tt) (queue-capacity p tt))
+      then for 3 del-dtq (λ a p. kept-delete-queue w e (seen m (numbered 3 c) v) c refl (search (exists-already p tt, only-left)))
       then for 4 snd-dtq (λ a p. send-kept (search (exists-already p tt, only-left)) Never (λ r f. can-wait 4 Never p tt tt))
       then for 5 psnd-dtq (λ a p. kept-send w (c .object) (search (exists-already p tt, only-left)) (c .value) _ (λ r f. after-return w))
       then for 6 tsnd-dtq (λ a p. send-kept (search (exists-already p tt, only-left)) _ (λ r f. can-wait 6 _ p tt (wait-ends p (e .counter) inside tt (search (r, f, or-left, yes-and)))))
@@ -116,16 +116,16 @@ module _ (e : Environment) (c : Call) (inside : e .counter < counter-span) {m : 
       then for 9 prcv-dtq (λ a p. kept-receive w (c .object) (search (exists-already p tt, only-left)) _ (λ n s. after-return w))
       then for 10 trcv-dtq (λ a p. receive-kept (search (exists-already p tt, only-left)) _ (λ n s. can-wait 10 _ p tt (wait-ends p (e .counter) inside tt (search (n, s, or-left, yes-and)))))
       then for 11 ref-dtq (λ a p. after-return w)
-      then for 12 cre-mbx (λ a p. kept-create-mailbox w (c .object) (c .attribute) (c .value) (a .mailbox-in tt) (exists-not p tt) (mailbox-attribute p tt) (mailbox-highest p tt))
-      then for 13 del-mbx (λ a p. kept-delete-mailbox w (c .object) (exists-already p tt))
+      then for 12 cre-mbx (λ a p. kept-create-mailbox w e v c (a .mailbox-in tt) (exists-not p tt) (mailbox-attribute p tt) (mailbox-highest p tt))
+      then for 13 del-mbx (λ a p. kept-delete-mailbox w e (seen m (numbered 13 c) v) c refl (exists-already p tt))
       then for 14 snd-mbx (λ a p. kept-send-message w (c .object) (exists-already p tt) (c .value) (c .attribute) (a .message-in tt) (message-free p tt) (message-priority p tt))
       then for 15 rcv-mbx (λ a p. receive-message-kept (exists-already p tt) Never (λ n. can-wait 15 Never p tt tt))
       then for 16 prcv-mbx (λ a p. kept-receive-message w (c .object) (exists-already p tt) _ (λ n. after-return w))
       then for 17 trcv-mbx (λ a p. receive-message-kept (exists-already p tt) _ (λ n. can-wait 17 _ p tt (wait-ends p (e .counter) inside tt n)))
       then for 18 ref-mbx (λ a p. after-return w)
-      then for 19 rel-wai (λ a p. kept-end-wait w (c .object) E-RLWAI done tt (task-waits p tt) (λ n u no-wait. after-return u))
-      then for 20 sus-tsk (λ a p. kept-suspension w (c .object) (a .suspension-in tt) true (λ s. search (exists-already p tt, only-left)))
-      then for 21 rsm-tsk (λ a p. kept-suspension w (c .object) (a .suspension-in tt) false (λ s. absurd s))
+      then for 19 rel-wai (λ a p. kept-end-wait w (c .object) E-RLWAI _ tt (task-waits p tt) (λ n u no-wait. after-return u))
+      then for 20 sus-tsk (λ a p. kept-sus-tsk w e v c (a .task-in tt) (search (exists-already p tt, only-left)))
+      then for 21 rsm-tsk (λ a p. kept-rsm-tsk w e v c (a .task-in tt))
       then for 22 look (λ a p. after-return w)
       then for 23 fetch (λ a p. after-return w)
       then tt

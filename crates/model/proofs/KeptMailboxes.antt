@@ -1,29 +1,32 @@
 -- The calls on mailboxes keep the rows well-formed: by the moves, branch by branch as the programs go.
-use mathlib.Core.Path.{_≡_, refl, sym, _∙_, ap, subst, fun-ext}
-use mathlib.Core.Bool.{true, not, cond}
-use mathlib.Core.List.{List, [], map}
+use mathlib.Core.Path.{_≡_, refl, sym, _∙_, ap, subst}
+use mathlib.Core.Bool.{not, cond}
+use mathlib.Core.List.{List, map}
 use Prim.Native.Nat.{ℕ, _≤_}
+use native.Mathlib.Omega.{arith}
 use lib.Dec.{T, T-not, eqb}
 use lib.ListN.{length}
 use mir.Facts.{T-not-not}
-use Rattle.lists.specs.Lists.{empty, passed, one-of, no-key, StandsWhereNamed}
+use Rattle.lists.specs.Lists.{empty, passed, one-of}
+use Rattle.lists.proofs.Stands.{empty-nil}
 use Rattle.rows.specs.Program as Program
-use Rattle.rows.specs.Program.{put, update}
+use Rattle.rows.specs.Program.{update}
 use Rattle.model.specs.Sizes.{priority-limit}
-use Rattle.model.specs.Rows.{task, mailbox, message, same-key, valid, Row, MailboxRow, Effect, waiters-by-priority, messages-by-priority, no-mailbox, free}
-use Rattle.model.specs.Codes.{E-OK, E-DLT, done}
+use Rattle.model.specs.Rows.{task, mailbox, message, same-key, valid, Row, MailboxRow, Environment, Effect, waiters-by-priority, messages-by-priority, no-mailbox}
+use Rattle.model.specs.Codes.{E-OK, E-DLT}
+use Rattle.model.specs.Calls.{Call, View, highest-of}
 use Rattle.model.specs.Waits.{End, AtMailbox}
-use Rattle.model.specs.WaitQueues.{place, release, end-waits}
-use Rattle.model.specs.Mailboxes.{free-messages, deliver-message, queue-message, take-message, wait-for-message, send-message, receive-message}
-use Rattle.model.specs.WellFormed.{waiters-of, named-mailbox, WellFormedRows}
+use Rattle.model.specs.WaitQueues.{place, release}
+use Rattle.model.specs.Mailboxes.{deliver-message, queue-message, take-message, wait-for-message, send-message, receive-message, cre-mbx, del-mbx}
+use Rattle.model.specs.WellFormed.{waiters-of, WellFormedRows}
 use Rattle.model.proofs.Choices.{cond-yes}
-use Rattle.model.proofs.Standing.{mailbox-cases, set-standing}
+use Rattle.model.proofs.Standing.{set-standing}
 use Rattle.model.proofs.WaitMoves.{defined-mailbox, leave-head, join}
-use Rattle.model.proofs.RowMoves.{with-message-rows, own-messages, put-mailbox}
-use Rattle.model.proofs.MessageMoves.{join-message, take-head, clear-mailbox}
-use Rattle.model.proofs.After.{After, after-return, after-get, after-put, after-if, after-get-each, after-free-messages}
+use Rattle.model.proofs.RowMoves.{with-message-rows, freed}
+use Rattle.model.proofs.MessageMoves.{join-message, take-head, replace-mailbox, new-mailbox}
+use Rattle.model.proofs.After.{After, after-return, after-get, after-put, after-if, after-get-each, after-free-messages, Kept}
 use Rattle.model.proofs.EndWaits.{after-end-waits}
-use Rattle.model.proofs.KeptQueues.{Kept, CanWait, none-left}
+use Rattle.model.proofs.KeptQueues.{CanWait}
 
 module _ {counter : ℕ} {soonest : ℕ → ℕ} {m : Program.Rows Row} (w : WellFormedRows counter soonest m) (b : ℕ) (defined : T (m (mailbox b) .defined)) where
   abbrev x : MailboxRow
@@ -77,41 +80,24 @@ module _ {counter : ℕ} {soonest : ℕ → ℕ} {m : Program.Rows Row} (w : Wel
         undefined = λ d. absurd (T-not (x .defined) d defined);
         attribute-in-range = w .mailboxes b .attribute-in-range;
         highest-in-range = w .mailboxes b .highest-in-range;
-        waiters = λ s. none-left no-message;
+        waiters = λ s. empty-nil no-message;
       })
       refl (can .end-ahead) (λ p. cond-yes (waiters-by-priority (x .attribute)) _ (length (map (λ n. m (task n) .priority) (x .waiters))) p)))))
 
 -- ── Create and delete ──
 
-module _ {counter : ℕ} {soonest : ℕ → ℕ} {m : Program.Rows Row} (w : WellFormedRows counter soonest m) (b : ℕ) where
-  pub kept-create-mailbox : (attribute highest : ℕ) → T (valid (mailbox b)) → T (not (m (mailbox b) .defined)) → attribute ≤ 3
-      → (T (messages-by-priority attribute) → (1 ≤ highest) × (highest ≤ priority-limit))
-      → After (Kept counter soonest) (put (mailbox b) (record { defined = true; attribute = attribute; highest = cond (messages-by-priority attribute) highest 0; waiters = []; messages = [] }) done) m
-  unfolding empty
-  kept-create-mailbox attribute highest valid-mailbox undefined attribute-fits highest-fits =
-      after-put (after-return (subst (λ (n : Program.Rows Row). WellFormedRows counter soonest (update same-key (mailbox b) v n)) (own-messages m)
-      (put-mailbox w b v (λ g. m (message g)) valid-mailbox
-      (record {
-        undefined = λ n. absurd n;
-        attribute-in-range = attribute-fits;
-        waiters = λ s. absurd s;
-        highest-in-range = λ p. let is = cond-yes (messages-by-priority attribute) highest 0 p in (rw is (highest-fits p .0), rw is (highest-fits p .1));
-      })
-      (sym (before .0)) (λ p. no-key) (λ g. w .in-range (message g))
-      (subst (λ (lists : ℕ → List ℕ). StandsWhereNamed lists (λ g. named-mailbox (m (message g)))) (fun-ext same) (w .queued))
-      (λ p. no-key) (λ j g n i. refl))))
-    where
-      v : MailboxRow
-      v = record { defined = true; attribute = attribute; highest = cond (messages-by-priority attribute) highest 0; waiters = []; messages = [] }
+module _ {counter : ℕ} {soonest : ℕ → ℕ} {m : Program.Rows Row} (w : WellFormedRows counter soonest m) (e : Environment) (v : View) (c : Call) where
+  pub kept-create-mailbox : T (valid (mailbox (c .object))) → T (not (m (mailbox (c .object)) .defined)) → c .attribute ≤ 3
+      → (T (messages-by-priority (c .attribute)) → (1 ≤ highest-of c) × (highest-of c ≤ priority-limit)) → After (Kept counter soonest) (cre-mbx e v c) m
+  kept-create-mailbox valid-number undefined attribute highest =
+      let before = w .mailboxes (c .object) .undefined undefined in
+      after-put (after-return (new-mailbox w (c .object) valid-number _ (before .0) (before .1) attribute
+      (λ p. subst (λ h. (1 ≤ h) × (h ≤ priority-limit)) (sym (cond-yes (messages-by-priority (c .attribute)) (highest-of c) 0 p)) (highest p)) refl refl))
 
-      before : (m (mailbox b) .waiters ≡ []) × (m (mailbox b) .messages ≡ [])
-      before = w .mailboxes b .undefined undefined
-
-      same : (j : ℕ) → m (mailbox j) .messages ≡ update same-key (mailbox b) v m (mailbox j) .messages
-      same j = mailbox-cases b m (λ i y. m (mailbox i) .messages ≡ y .messages) v (before .1) j (λ n. refl)
-
-  pub kept-delete-mailbox : T (m (mailbox b) .defined) → After (Kept counter soonest) (end-waits (m (mailbox b) .waiters) E-DLT (free-messages (m (mailbox b) .messages) (put (mailbox b) no-mailbox done))) m
-  kept-delete-mailbox defined =
-      after-end-waits E-DLT tt (waiters-of b) (m (mailbox b) .waiters) _ m w refl λ n v a.
-      after-free-messages (m (mailbox b) .messages) _ n (after-put (after-return
-      (subst (λ (l : List ℕ). WellFormedRows counter soonest (update same-key (mailbox b) no-mailbox (with-message-rows (λ g. cond (one-of g l) free (n (message g))) n))) (a .messages b) (clear-mailbox v b (defined-mailbox w b defined) (a .no-one)))))
+  pub kept-delete-mailbox : m (mailbox (c .object)) ≡ v .the-mailbox → T (m (mailbox (c .object)) .defined) → After (Kept counter soonest) (del-mbx e v c) m
+  unfolding one-of
+  kept-delete-mailbox shown defined =
+      after-end-waits E-DLT tt (waiters-of (c .object)) (v .the-mailbox .waiters) _ m w (ap (λ (y : MailboxRow). y .waiters) shown) λ n u a.
+      after-free-messages (v .the-mailbox .messages) _ n (after-put (after-return
+      (subst (λ (l : List ℕ). WellFormedRows counter soonest (update same-key (mailbox (c .object)) no-mailbox (with-message-rows (freed l n) n))) (a .messages (c .object) ∙ ap (λ (y : MailboxRow). y .messages) shown)
+      (replace-mailbox u (c .object) (defined-mailbox w (c .object) defined) no-mailbox (a .no-one) (omega arith) (λ p. absurd p) refl refl))))

@@ -7,29 +7,26 @@ use native.Mathlib.Omega.{arith}
 use lib.Dec.{T, T-not, not-T, eqb}
 use lib.ListN.{length, length-append}
 use mir.Facts.{T-not-not, ltb-yes, ltb-no, eqb-no}
-use Rattle.lists.specs.Lists.{empty, no-key}
+use Rattle.lists.specs.Lists.{empty, insert-at, no-key}
 use Rattle.lists.proofs.Changes.{insert-at-end}
+use Rattle.lists.proofs.Stands.{empty-nil}
 use Rattle.rows.specs.Program as Program
-use Rattle.rows.specs.Program.{put, update}
+use Rattle.rows.specs.Program.{update}
 use Rattle.rows.proofs.Update.{update-same}
 use Rattle.model.specs.Sizes.{capacity-limit}
-use Rattle.model.specs.Rows.{task, queue, same-key, valid, Row, QueueRow, Effect, senders-by-priority, has-room, no-queue, with-words, with-senders}
-use Rattle.model.specs.Codes.{E-OK, E-DLT, done}
+use Rattle.model.specs.Rows.{task, queue, same-key, valid, Row, QueueRow, Environment, Effect, senders-by-priority, has-room, no-queue, with-words, with-senders, with-receivers}
+use Rattle.model.specs.Codes.{E-OK, E-DLT}
+use Rattle.model.specs.Calls.{Call, View, capacity-of}
 use Rattle.model.specs.Waits.{End, NoWait, Sending, Receiving, held-word, ended}
-use Rattle.model.specs.WaitQueues.{place, release, end-waits}
-use Rattle.model.specs.DataQueues.{deliver, store, replace-oldest, wait-to-send, send, take-oldest, take-oldest-and-refill, take-from-sender, wait-to-receive, receive}
-use Rattle.model.specs.WellFormed.{senders-of, receivers-of, EndAhead, WellFormedRows}
-use Rattle.model.specs.declared.Answer.{Answer}
+use Rattle.model.specs.WaitQueues.{place, release}
+use Rattle.model.specs.DataQueues.{deliver, store, replace-oldest, wait-to-send, send, take-oldest, take-oldest-and-refill, take-from-sender, wait-to-receive, receive, cre-dtq, del-dtq}
+use Rattle.model.specs.WellFormed.{senders-of, receivers-of, EndAhead, QueueWellFormed, WellFormedRows}
 use Rattle.model.proofs.Choices.{cond-yes}
 use Rattle.model.proofs.Standing.{put-twice, set-standing}
 use Rattle.model.proofs.WaitMoves.{defined-queue, leave-head, join}
 use Rattle.model.proofs.RowMoves.{put-queue}
-use Rattle.model.proofs.After.{After, after-return, after-get, after-put, after-if, after-get-each}
+use Rattle.model.proofs.After.{After, after-return, after-get, after-put, after-if, after-get-each, Kept}
 use Rattle.model.proofs.EndWaits.{after-end-waits}
-
--- The rows that are left are well-formed, whatever the answer.
-abbrev pub Kept : ℕ → (ℕ → ℕ) → Program.Rows Row → Answer → Type 0
-Kept counter soonest n a = WellFormedRows counter soonest n
 
 -- The tail of the words, with and without a word behind it.
 length-tail : (l : List ℕ) → length (tail l) ≤ length l
@@ -41,11 +38,6 @@ unfolding empty
 length-replaced [] word t = absurd t
 length-replaced (y ∷ l) word t = length-append l (word ∷ []) ∙ omega arith
 
-pub none-left : {l : List ℕ} → T (empty l) → l ≡ []
-unfolding empty
-none-left {l = []} t = refl
-none-left {l = y ∷ l} t = absurd t
-
 -- What is known of a caller that may wait.
 pub record CanWait (counter : ℕ) (soonest : ℕ → ℕ) (m : Program.Rows Row) (me : ℕ) (end : End) : Type 0 where
   pub defined : T (m (task me) .defined)
@@ -56,18 +48,22 @@ module _ {counter : ℕ} {soonest : ℕ → ℕ} {m : Program.Rows Row} (w : Wel
   abbrev x : QueueRow
   x = m (queue q)
 
-  -- Other words.
+  -- The queue, which is defined, with other words and other tasks waiting.
+  refit : (words senders receivers : List ℕ) → length words ≤ x .capacity → (T (not (empty senders)) → (length words ≡ x .capacity) × (receivers ≡ [])) → (T (not (empty receivers)) → (words ≡ []) × (senders ≡ []))
+      → QueueWellFormed (with-receivers receivers (with-senders senders (with-words words x)))
+  refit words senders receivers count sending receiving = record {
+    undefined = λ d. absurd (T-not (x .defined) d defined);
+    attribute-in-range = w .queues q .attribute-in-range;
+    capacity-in-range = w .queues q .capacity-in-range;
+    count = count;
+    senders = sending;
+    receivers = receiving;
+  }
+
   put-words : (words : List ℕ) → length words ≤ x .capacity → (T (not (empty (x .senders))) → length words ≡ x .capacity) → (T (not (empty (x .receivers))) → words ≡ [])
       → WellFormedRows counter soonest (update same-key (queue q) (with-words words x) m)
-  put-words words fits full none-stored = put-queue w q (with-words words x) (defined-queue w q defined)
-      (record {
-        undefined = λ d. absurd (T-not (x .defined) d defined);
-        attribute-in-range = w .queues q .attribute-in-range;
-        capacity-in-range = w .queues q .capacity-in-range;
-        count = fits;
-        senders = λ s. (full s, w .queues q .senders s .1);
-        receivers = λ r. (none-stored r, w .queues q .receivers r .1);
-      })
+  put-words words count full none-stored = put-queue w q (with-words words x) (defined-queue w q defined)
+      (refit words (x .senders) (x .receivers) count (λ s. (full s, w .queues q .senders s .1)) (λ r. (none-stored r, w .queues q .receivers r .1)))
       refl refl (w .waiting-in-order (senders-of q))
 
   -- ── Send ──
@@ -95,7 +91,7 @@ module _ {counter : ℕ} {soonest : ℕ → ℕ} {m : Program.Rows Row} (w : Wel
     pub kept-replace-oldest : (word : ℕ) → T (not (eqb (x .capacity) 0)) → After (Kept counter soonest) (replace-oldest q x word) m
     unfolding replace-oldest
     kept-replace-oldest word some-capacity =
-        let same = length-replaced (x .words) word (not-T (empty (x .words)) (λ e. eqb-no {a = x .capacity} some-capacity (sym full ∙ ap length (none-left e)))) in
+        let same = length-replaced (x .words) word (not-T (empty (x .words)) (λ e. eqb-no {a = x .capacity} some-capacity (sym full ∙ ap length (empty-nil e)))) in
         let count = w .queues q .count in
         after-put (after-return (put-words _ (omega arith) (λ s. same ∙ full) (λ r. absurd (T-not (empty (x .receivers)) r no-receiver))))
 
@@ -104,14 +100,7 @@ module _ {counter : ℕ} {soonest : ℕ → ℕ} {m : Program.Rows Row} (w : Wel
     kept-wait-to-send me word end can =
         after-get-each task _ _ _ (after-put (after-put (after-return
         (join w me (senders-of q) _ (Sending q end word) (can .defined) (can .able) (defined-queue w q defined)
-        (record {
-          undefined = λ d. absurd (T-not (x .defined) d defined);
-          attribute-in-range = w .queues q .attribute-in-range;
-          capacity-in-range = w .queues q .capacity-in-range;
-          count = w .queues q .count;
-          senders = λ s. (full, none-left no-receiver);
-          receivers = λ r. absurd (T-not (empty (x .receivers)) r no-receiver);
-        })
+        (refit (x .words) (insert-at _ me (x .senders)) (x .receivers) (w .queues q .count) (λ s. (full, empty-nil no-receiver)) (λ r. absurd (T-not (empty (x .receivers)) r no-receiver)))
         refl (can .end-ahead) (λ b. cond-yes (senders-by-priority (x .attribute)) _ (length (map (λ n. m (task n) .priority) (x .senders))) b)))))
 
   -- ── Receive ──
@@ -159,36 +148,41 @@ module _ {counter : ℕ} {soonest : ℕ → ℕ} {m : Program.Rows Row} (w : Wel
   kept-wait-to-receive me end no-word no-sender can =
       after-put (after-put (after-return (rw (insert-at-end me (x .receivers)) at
       (join w me (receivers-of q) (length (x .receivers)) (Receiving q end) (can .defined) (can .able) (defined-queue w q defined)
-      (record {
-        undefined = λ d. absurd (T-not (x .defined) d defined);
-        attribute-in-range = w .queues q .attribute-in-range;
-        capacity-in-range = w .queues q .capacity-in-range;
-        count = w .queues q .count;
-        senders = λ s. absurd (T-not (empty (x .senders)) s no-sender);
-        receivers = λ r. (none-left no-word, none-left no-sender);
-      })
+      (refit (x .words) (x .senders) (insert-at (length (x .receivers)) me (x .receivers)) (w .queues q .count) (λ s. absurd (T-not (empty (x .senders)) s no-sender)) (λ r. (empty-nil no-word, empty-nil no-sender)))
       refl (can .end-ahead) (λ b. absurd b)))))
 
 -- ── Create and delete ──
 
 module _ {counter : ℕ} {soonest : ℕ → ℕ} {m : Program.Rows Row} (w : WellFormedRows counter soonest m) (q : ℕ) where
-  pub kept-create-queue : (attribute capacity : ℕ) → T (valid (queue q)) → T (not (m (queue q) .defined)) → attribute ≤ 1 → capacity ≤ capacity-limit
-      → After (Kept counter soonest) (put (queue q) (record { defined = true; attribute = attribute; capacity = capacity; words = []; senders = []; receivers = [] }) done) m
+  -- A whole row, where no task waits before and after.
+  replace-queue : (v : QueueRow) → T (valid (queue q)) → m (queue q) .senders ≡ [] → m (queue q) .receivers ≡ [] → v .attribute ≤ 1 → v .capacity ≤ capacity-limit → v .words ≡ [] → v .senders ≡ [] → v .receivers ≡ []
+      → WellFormedRows counter soonest (update same-key (queue q) v m)
   unfolding empty
-  kept-create-queue attribute capacity valid-queue undefined attribute-fits capacity-fits =
-      let before = w .queues q .undefined undefined in
-      after-put (after-return (put-queue w q _ valid-queue
-      (record { undefined = λ n. absurd n; attribute-in-range = attribute-fits; capacity-in-range = capacity-fits; count = omega arith; senders = λ s. absurd s; receivers = λ r. absurd r })
-      (sym (before .1)) (sym (before .2)) (λ b. no-key)))
-
-  pub kept-delete-queue : T (m (queue q) .defined) → After (Kept counter soonest) (end-waits (m (queue q) .senders) E-DLT (end-waits (m (queue q) .receivers) E-DLT (put (queue q) no-queue done))) m
-  unfolding empty
-  kept-delete-queue defined =
-      after-end-waits E-DLT tt (senders-of q) (m (queue q) .senders) _ m w refl λ n v a.
-      after-end-waits E-DLT tt (receivers-of q) (m (queue q) .receivers) _ n v (a .other-lists (receivers-of q) (λ e. other e)) λ o u b.
-      after-put (after-return (put-queue u q no-queue (defined-queue w q defined)
-      (record { undefined = λ n. (refl, refl, refl); attribute-in-range = omega arith; capacity-in-range = omega arith; count = omega arith; senders = λ s. absurd s; receivers = λ r. absurd r })
-      (sym (b .other-lists (senders-of q) (λ e. other (sym e)) ∙ a .no-one)) (sym (b .no-one)) (λ b. no-key)))
+  replace-queue v valid-queue no-sender no-receiver attribute capacity words senders receivers = put-queue w q v valid-queue
+      (record {
+        undefined = λ n. (words, senders, receivers);
+        attribute-in-range = attribute;
+        capacity-in-range = capacity;
+        count = rw words (omega arith);
+        senders = λ s. absurd (not-empty senders s);
+        receivers = λ r. absurd (not-empty receivers r);
+      })
+      (senders ∙ sym no-sender) (receivers ∙ sym no-receiver) (λ b. rw senders no-key)
     where
-      other : receivers-of q ≡ senders-of q → ⊥
+      not-empty : {l : List ℕ} → l ≡ [] → T (not (empty l)) → ⊥
+      not-empty e t = rw e at t
+
+module _ {counter : ℕ} {soonest : ℕ → ℕ} {m : Program.Rows Row} (w : WellFormedRows counter soonest m) (e : Environment) (v : View) (c : Call) where
+  pub kept-create-queue : T (valid (queue (c .object))) → T (not (m (queue (c .object)) .defined)) → c .attribute ≤ 1 → capacity-of c ≤ capacity-limit → After (Kept counter soonest) (cre-dtq e v c) m
+  kept-create-queue valid-queue undefined attribute capacity =
+      let before = w .queues (c .object) .undefined undefined in
+      after-put (after-return (replace-queue w (c .object) _ valid-queue (before .1) (before .2) attribute capacity refl refl refl))
+
+  pub kept-delete-queue : m (queue (c .object)) ≡ v .the-queue → T (m (queue (c .object)) .defined) → After (Kept counter soonest) (del-dtq e v c) m
+  kept-delete-queue shown defined =
+      after-end-waits E-DLT tt (senders-of (c .object)) (v .the-queue .senders) _ m w (ap (λ (y : QueueRow). y .senders) shown) λ n u a.
+      after-end-waits E-DLT tt (receivers-of (c .object)) (v .the-queue .receivers) _ n u (a .other-lists (receivers-of (c .object)) other ∙ ap (λ (y : QueueRow). y .receivers) shown) λ o z b.
+      after-put (after-return (replace-queue z (c .object) no-queue (defined-queue w (c .object) defined) (b .other-lists (senders-of (c .object)) (λ e. other (sym e)) ∙ a .no-one) (b .no-one) (omega arith) (omega arith) refl refl refl))
+    where
+      other : receivers-of (c .object) ≡ senders-of (c .object) → ⊥
       other e = let z : true ≡ false = cc in true≢false z

@@ -16,8 +16,7 @@ use Rattle.model.specs.Tasks.{expire, tick}
 use Rattle.model.specs.WellFormed.{EndAhead, WellFormedRows, WellFormed}
 use Rattle.model.proofs.Tests.{cond-no}
 use Rattle.model.proofs.Choices.{cond-yes}
-use Rattle.model.proofs.After.{After, after-return, after-get, after-if}
-use Rattle.model.proofs.KeptQueues.{Kept}
+use Rattle.model.proofs.After.{After, after-return, after-get, after-if, Kept}
 use Rattle.model.proofs.KeptTasks.{kept-end-wait}
 
 -- ── Ends of waits ──
@@ -114,7 +113,7 @@ pub kept-tick : (m : Model) → WellFormed m → WellFormed (tick m .state)
 unfolding tick
 kept-tick m w = record {
   counter-in-range = omega arith;
-  rows = kept-expire later (omega arith) task-limit 1 0 (m .rows) refl (with-ends (w .rows) ends) .holds;
+  rows = kept-expire later (omega arith) _ 1 0 (m .rows) refl (with-ends (w .rows) ends) .holds;
 }
   where
     later : ℕ

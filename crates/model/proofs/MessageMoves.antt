@@ -1,7 +1,7 @@
 -- A message that joins or leaves a mailbox, and all messages of a mailbox freed with it, keep the rows well-formed: by the laws of numbers that stand in the
 -- lists that they name.
-use mathlib.Core.Path.{_≡_, refl, sym, _∙_, ap, fun-ext}
-use mathlib.Core.Bool.{Bool, not, cond}
+use mathlib.Core.Path.{_≡_, refl, sym, _∙_, ap, subst, fun-ext}
+use mathlib.Core.Bool.{not}
 use mathlib.Core.List.{List, [], map, tail, headD, List·Memᴰ as In}
 use mathlib.Core.Logic.{_≢_}
 use mathlib.Core.Option.{some, none, Option·none-ne-some, Option·some-injective}
@@ -11,20 +11,18 @@ use native.Mathlib.Omega.{arith}
 use lib.Dec.{T, T-not, eqb, leb, leb→le}
 use mir.Facts.{and-yes, no-eqb}
 use Rattle.lists.specs.Lists.{empty, insert-at, passed, one-of, InOrder, no-key, StandsWhereNamed}
-use Rattle.lists.specs.Tests.{Whether, holds, fails}
-use Rattle.lists.proofs.Members.{is-one-of}
 use Rattle.lists.proofs.Stands.{in-head, without-head, map-members, stands-leave, stands-join, stands-clear}
 use Rattle.rows.specs.Program as Program
 use Rattle.rows.specs.Program.{update}
 use Rattle.rows.proofs.Update.{update-same, update-other, update-cases}
-use Rattle.model.specs.Sizes.{mailbox-limit}
-use Rattle.model.specs.Rows.{Key, task, suspension, queue, mailbox, message, same-key, valid, Row, MailboxRow, MessageRow, messages-by-priority, no-mailbox, free, with-messages}
+use Rattle.model.specs.Sizes.{mailbox-limit, priority-limit}
+use Rattle.model.specs.Rows.{Key, task, suspension, queue, mailbox, message, same-key, valid, Row, MailboxRow, MessageRow, messages-by-priority, free, with-messages}
 use Rattle.model.specs.WellFormed.{waiters-of, named-mailbox, MailboxWellFormed, WellFormedRows}
 use Rattle.model.proofs.Tests.{cond-no, cond-both}
 use Rattle.model.proofs.Choices.{cond-yes, cond-member, cond-no-member}
 use Rattle.model.proofs.Standing.{changed, message-cases}
 use Rattle.model.proofs.WaitMoves.{is-valid, in-order-with, in-order-without}
-use Rattle.model.proofs.RowMoves.{with-message-rows, put-mailbox}
+use Rattle.model.proofs.RowMoves.{with-message-rows, freed, own-messages, put-mailbox}
 
 -- A mailbox's number isn't 0.
 names-mailbox : (b p : ℕ) → T (valid (mailbox b)) → named-mailbox (record { queued-in = b; priority = p }) ≡ some b
@@ -131,24 +129,29 @@ module _ {counter : ℕ} {soonest : ℕ → ℕ} {m : Program.Rows Row} (w : Wel
       others : map (λ j. rows g free (tail old) j .priority) (tail old) ≡ map (λ j. m (message j) .priority) (tail old)
       others = map-members _ _ (tail old) (λ j i. ap (λ (y : MessageRow). y .priority) (update-other ℕ-discrete g free (λ j. m (message j)) j (stays j i)))
 
-  -- All messages are freed, and the mailbox is undefined.
-  pub clear-mailbox : m (mailbox b) .waiters ≡ []
-      → WellFormedRows counter soonest (update same-key (mailbox b) no-mailbox (with-message-rows (λ g. cond (one-of g (m (mailbox b) .messages)) free (m (message g))) m))
-  unfolding empty one-of
-  clear-mailbox no-waiter =
-      put-mailbox w b no-mailbox rows-freed valid-mailbox
-      (record { undefined = λ d. (refl, refl); attribute-in-range = omega arith; highest-in-range = λ q. absurd q; waiters = λ s. absurd s })
-      (sym no-waiter) (λ q. no-key)
+  -- All messages are freed, and the mailbox gets another row, where no task waits before and after.
+  pub replace-mailbox : (v : MailboxRow) → m (mailbox b) .waiters ≡ [] → v .attribute ≤ 3 → (T (messages-by-priority (v .attribute)) → (1 ≤ v .highest) × (v .highest ≤ priority-limit)) → v .waiters ≡ [] → v .messages ≡ []
+      → WellFormedRows counter soonest (update same-key (mailbox b) v (with-message-rows (freed (m (mailbox b) .messages) m) m))
+  unfolding empty
+  replace-mailbox v no-waiter attribute highest waiters messages =
+      put-mailbox w b v (freed old m) valid-mailbox
+      (record { undefined = λ n. (waiters, messages); attribute-in-range = attribute; highest-in-range = highest; waiters = λ s. messages })
+      (waiters ∙ sym no-waiter) (λ q. rw waiters no-key)
       (λ g n. cond-both (one-of g old) free (m (message g)) refl (λ d. w .in-range (message g) n))
       (stands-clear ℕ-discrete (w .queued) b
-      (λ j n. ap (λ (y : MailboxRow). y .messages) (update-other same-key (mailbox b) no-mailbox m (mailbox j) (λ e. n (cc))))
+      (λ j n. ap (λ (y : MailboxRow). y .messages) (update-other same-key (mailbox b) v m (mailbox j) (λ e. n (cc))))
       (λ g i. ap named-mailbox (cond-member g old free (m (message g)) i)) (λ g f. ap named-mailbox (cond-no-member g old free (m (message g)) f))
-      (ap (λ (y : MailboxRow). y .messages) (update-same same-key (mailbox b) no-mailbox m)))
-      (λ q. no-key)
+      (ap (λ (y : MailboxRow). y .messages) (update-same same-key (mailbox b) v m) ∙ messages))
+      (λ q. rw messages no-key)
       (λ j g n i. ap (λ (y : MessageRow). y .priority) (sym (cond-no-member g old free (m (message g)) (λ h. n (Option·some-injective j b (sym (w .queued .no-other g j i) ∙ w .queued .no-other g b h))))))
     where
       old : List ℕ
       old = m (mailbox b) .messages
 
-      rows-freed : ℕ → MessageRow
-      rows-freed g = cond (one-of g old) free (m (message g))
+  -- Where it has no messages, none is freed.
+  pub new-mailbox : (v : MailboxRow) → m (mailbox b) .waiters ≡ [] → m (mailbox b) .messages ≡ [] → v .attribute ≤ 3 → (T (messages-by-priority (v .attribute)) → (1 ≤ v .highest) × (v .highest ≤ priority-limit)) → v .waiters ≡ [] → v .messages ≡ []
+      → WellFormedRows counter soonest (update same-key (mailbox b) v m)
+  unfolding one-of
+  new-mailbox v no-waiter no-message attribute highest waiters messages =
+      subst (λ (n : Program.Rows Row). WellFormedRows counter soonest (update same-key (mailbox b) v n)) (ap (λ l. with-message-rows (freed l m) m) no-message ∙ own-messages m)
+      (replace-mailbox v no-waiter attribute highest waiters messages)

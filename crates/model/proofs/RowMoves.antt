@@ -1,13 +1,13 @@
 -- A row put with the wait queues as they were, and a mailbox's row put with its messages', keep the rows well-formed: sentence by sentence, what isn't touched
 -- being read by computing.
 use mathlib.Core.Path.{_≡_, refl, sym, _∙_, ap, subst, subst₂, fun-ext}
-use mathlib.Core.Bool.{Bool, not}
-use mathlib.Core.List.{map, List·Memᴰ as In}
+use mathlib.Core.Bool.{Bool, not, cond}
+use mathlib.Core.List.{List, map, List·Memᴰ as In}
 use mathlib.Core.Logic.{_≢_}
 use mathlib.Core.Option.{Option·none-ne-some}
 use Prim.Native.Nat.{ℕ}
 use lib.Dec.{T}
-use Rattle.lists.specs.Lists.{InOrder, StandsWhereNamed}
+use Rattle.lists.specs.Lists.{one-of, InOrder, StandsWhereNamed}
 use Rattle.lists.proofs.Stands.{map-members}
 use Rattle.rows.specs.Program as Program
 use Rattle.rows.specs.Program.{update}
@@ -24,6 +24,10 @@ with-message-rows messages m (suspension t) = m (suspension t)
 with-message-rows messages m (queue q) = m (queue q)
 with-message-rows messages m (mailbox b) = m (mailbox b)
 with-message-rows messages m (message g) = messages g
+
+-- The messages' rows when these are free.
+abbrev pub freed : List ℕ → Program.Rows Row → ℕ → MessageRow
+freed l m g = cond (one-of g l) free (m (message g))
 
 -- The rows' own messages change nothing.
 pub own-messages : (m : Program.Rows Row) → with-message-rows (λ g. m (message g)) m ≡ m

@@ -1,5 +1,5 @@
 -- Every call and the tick keep a model well-formed, the empty model is well-formed, and a well-formed model is linked: a call by cases, refused or accepted.
-use mathlib.Core.Path.{_≡_, refl, sym, ap, subst}
+use mathlib.Core.Path.{_≡_, refl, ap, subst}
 use mathlib.Core.Bool.{Bool, true, false, not, cond}
 use mathlib.Core.List.{[], map}
 use mathlib.Core.Option.{some, none, Option·none-ne-some, Option·some-injective}
@@ -10,22 +10,20 @@ use Rattle.lists.specs.Lists.{empty, one-of, InOrder, no-key}
 use Rattle.lists.proofs.Each.{each-of-all}
 use Rattle.lists.proofs.Stands.{each-member, stands-nowhere}
 use Rattle.rows.specs.Program as Program
-use Rattle.rows.specs.Program.{Result, run, step-of}
-use Rattle.model.specs.Rows.{Key, task, queue, mailbox, message, same-key, Row, MessageRow, no-task, nothing as no-rows, Model}
+use Rattle.rows.specs.Program.{run, step-of}
+use Rattle.model.specs.Rows.{task, message, same-key, MessageRow, no-task, nothing as no-rows, Model}
 use Rattle.model.specs.Sizes.{priority-limit}
 use Rattle.model.specs.Calls.{Call, view-of}
 use Rattle.model.specs.Waits.{Wait, NoWait, Sending, Receiving, AtMailbox}
 use Rattle.model.specs.Errors.{refused}
 use Rattle.model.specs.Tasks.{tick}
 use Rattle.model.specs.Step.{call, step, program}
-use Rattle.model.specs.Isolation.{WaitsAt, QueuedAt, Linked}
+use Rattle.model.specs.Isolation.{WaitsAt, QueuedAt}
 use Rattle.model.specs.WellFormed.{WaitQueue, senders-of, receivers-of, waiters-of, standing-in, by-priority, wait-queue, named-mailbox, WellFormedRows, WellFormed, KeptWellFormed, EmptyWellFormed, WellFormedLinked}
-use Rattle.model.specs.declared.Answer.{Answer}
 use Rattle.model.proofs.Choices.{cond-yes}
 use Rattle.model.proofs.Step.{step-call, run-refused, run-accepted}
 use Rattle.model.proofs.Accepted.{passes, accepted}
 use Rattle.model.proofs.WaitMoves.{object-of}
-use Rattle.model.proofs.KeptQueues.{Kept}
 use Rattle.model.proofs.KeptCalls.{Valid, kept-accepted}
 use Rattle.model.proofs.KeptTick.{kept-tick}
 
