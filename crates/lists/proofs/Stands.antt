@@ -161,8 +161,10 @@ module _ {K : Type 0} (same : Discrete K) {lists lists′ : K → List ℕ} {nam
         names y i = ⊎-elim (λ q. ap named′ q ∙ new) (λ j. other-names y (λ q. absent (Memᴰ·cast (sym q) j)) ∙ s .no-other y c j) (in-insert-cases n x (lists c) (rw list at i))
 
   -- All numbers leave it.
-  pub stands-clear : ((y : ℕ) → In y (lists c) → named′ y ≡ none) → ((y : ℕ) → (In y (lists c) → ⊥) → named′ y ≡ named y) → lists′ c ≡ [] → StandsWhereNamed lists′ named′
-  stands-clear gone kept list = stands-changed (λ y k n. before y (is-one-of y (lists c))) after (λ y e. absurd (out y (before y (is-one-of y (lists c)) e) e)) (λ y i. absurd (List·Memᴰ·not-nil (rw list at i))) (rw list nothing)
+  pub stands-clear : ((y : ℕ) → In y (lists c) → named′ y ≡ none) → ((y : ℕ) → (In y (lists c) → ⊥) → named′ y ≡ named y)
+      → lists′ c ≡ [] → StandsWhereNamed lists′ named′
+  stands-clear gone kept list = stands-changed (λ y k n. before y (is-one-of y (lists c))) after
+      (λ y e. absurd (out y (before y (is-one-of y (lists c)) e) e)) (λ y i. absurd (List·Memᴰ·not-nil (rw list at i))) (rw list nothing)
     where
       before : (y : ℕ) {k : K} {b : Bool} → Whether (In y (lists c)) b → named′ y ≡ some k → named y ≡ some k
       before y {k} (holds i) e = absurd (Option·none-ne-some k (sym (gone y i) ∙ e))

@@ -55,7 +55,8 @@ module _ {Q : Program.Rows Row → Answer → Type 0} where
 
   -- ── What several calls share ──
 
-  after-take-out : (t : ℕ) (x : Wait) (c : WaitQueue) (p : Effect) (m : Program.Rows Row) → wait-queue x ≡ some c → After Q p (set-standing c (without t (standing-in m c)) m) → After Q (take-out t x p) m
+  after-take-out : (t : ℕ) (x : Wait) (c : WaitQueue) (p : Effect) (m : Program.Rows Row) → wait-queue x ≡ some c
+      → After Q p (set-standing c (without t (standing-in m c)) m) → After Q (take-out t x p) m
   unfolding take-out set-standing
   after-take-out t NoWait c p m e h = absurd (Option·none-ne-some c e)
   after-take-out t (Sending q end word) c p m e h = after-get (after-put (rw (← Option·some-injective (senders-of q) c e) at h))
@@ -73,9 +74,11 @@ module _ {Q : Program.Rows Row → Answer → Type 0} where
   after-free-messages [] p m h = subst (After Q p) (own-messages m) h
   after-free-messages (g ∷ gs) p m h = after-put (after-free-messages gs p (update same-key (message g) free m) (subst (After Q p) (fun-ext same) h))
     where
-      same : (k : Key) → with-message-rows (freed (g ∷ gs) m) m k ≡ with-message-rows (freed gs (update same-key (message g) free m)) (update same-key (message g) free m) k
+      same : (k : Key) → with-message-rows (freed (g ∷ gs) m) m k
+          ≡ with-message-rows (freed gs (update same-key (message g) free m)) (update same-key (message g) free m) k
       same (task t) = refl
       same (suspension t) = refl
       same (queue q) = refl
       same (mailbox b) = refl
-      same (message j) = message-cases g m (λ i y. cond (eqb i g || one-of i gs) free (m (message i)) ≡ cond (one-of i gs) free y) free (rw (eq-eqb g g refl) (sym (cond-both (one-of g gs) free free refl (λ n. refl)))) j (λ n. rw (ne-eqb j g n))
+      same (message j) = message-cases g m (λ i y. cond (eqb i g || one-of i gs) free (m (message i)) ≡ cond (one-of i gs) free y)
+          free (rw (eq-eqb g g refl) (sym (cond-both (one-of g gs) free free refl (λ n. refl)))) j (λ n. rw (ne-eqb j g n))

@@ -55,11 +55,13 @@ module _ {v : View} {c : Call} (p : Passes v c) where
   unfolding highest-outside
   mailbox-highest h k =
       let outside = not (within 1 priority-limit (highest-of c)) in
-      between 1 priority-limit (highest-of c) (not-both (eqb (c .number) 12 && messages-by-priority (c .attribute)) outside (search (p .step-4, neither-left, neither-right)) (yes-and (eqb (c .number) 12) (messages-by-priority (c .attribute)) h k))
+      between 1 priority-limit (highest-of c)
+      (not-both (eqb (c .number) 12 && messages-by-priority (c .attribute)) outside (search (p .step-4, neither-left, neither-right)) (yes-and (eqb (c .number) 12) (messages-by-priority (c .attribute)) h k))
 
   pub task-priority : T (eqb (c .number) 1) → (1 ≤ task-priority-of c) × (task-priority-of c ≤ priority-limit)
   unfolding task-priority-outside
-  task-priority h = between 1 priority-limit (task-priority-of c) (not-both (eqb (c .number) 1) (not (within 1 priority-limit (task-priority-of c))) (search (p .step-4, neither-left, neither-right)) h)
+  task-priority h = between 1 priority-limit (task-priority-of c)
+      (not-both (eqb (c .number) 1) (not (within 1 priority-limit (task-priority-of c))) (search (p .step-4, neither-left, neither-right)) h)
 
   -- ── The rows in view ──
 
@@ -87,7 +89,8 @@ module _ {v : View} {c : Call} (p : Passes v c) where
   unfolding message-priority-outside
   message-priority h k =
       let outside = not (within 1 (v .the-mailbox .highest) (message-priority-of c)) in
-      between 1 (v .the-mailbox .highest) (message-priority-of c) (not-both (names-message c && messages-by-priority (v .the-mailbox .attribute)) outside (p .step-6a) (yes-and (names-message c) (messages-by-priority (v .the-mailbox .attribute)) h k))
+      between 1 (v .the-mailbox .highest) (message-priority-of c)
+      (not-both (names-message c && messages-by-priority (v .the-mailbox .attribute)) outside (p .step-6a) (yes-and (names-message c) (messages-by-priority (v .the-mailbox .attribute)) h k))
 
   pub message-free : T (names-message c) → T (eqb (v .the-message .queued-in) 0)
   unfolding wrong-state
@@ -100,7 +103,8 @@ module _ {v : View} {c : Call} (p : Passes v c) where
   pub something-to-drop : T (eqb (c .number) 7) → T (empty (v .the-queue .receivers)) → T (not (eqb (v .the-queue .capacity) 0))
   unfolding nothing-to-drop
   something-to-drop h k =
-      not-both (eqb (c .number) 7) (eqb (v .the-queue .capacity) 0) (not-both-left (eqb (c .number) 7 && eqb (v .the-queue .capacity) 0) (empty (v .the-queue .receivers)) (p .step-6d) k) h
+      not-both (eqb (c .number) 7) (eqb (v .the-queue .capacity) 0)
+      (not-both-left (eqb (c .number) 7 && eqb (v .the-queue .capacity) 0) (empty (v .the-queue .receivers)) (p .step-6d) k) h
 
   -- A call that would wait is no poll, so its wait ends in time.
   pub wait-ends : (counter : ℕ) → counter < counter-span → T (has-tmout c) → T (would-wait v c) → EndAhead counter 1 (end-of counter (c .tmout))
@@ -108,4 +112,5 @@ module _ {v : View} {c : Call} (p : Passes v c) where
   wait-ends counter inside h k =
       end-ahead counter (c .tmout) inside
       (not-both (has-tmout c) (is-zero (c .tmout)) (neither-right (calls c (5 ∷ 9 ∷ 16 ∷ [])) _ (not-both-left (polls c) (would-wait v c) (p .step-7) k)) h)
-      (neither-right (ltZ (c .tmout) (negsuc 0)) (ltZ (pos tmout-limit) (c .tmout)) (not-both (has-tmout c) (ltZ (c .tmout) (negsuc 0) || ltZ (pos tmout-limit) (c .tmout)) (search (p .step-4, neither-left, neither-right)) h))
+      (neither-right (ltZ (c .tmout) (negsuc 0)) (ltZ (pos tmout-limit) (c .tmout))
+      (not-both (has-tmout c) (ltZ (c .tmout) (negsuc 0) || ltZ (pos tmout-limit) (c .tmout)) (search (p .step-4, neither-left, neither-right)) h))

@@ -40,7 +40,8 @@ module _ (code : Code) where
     unfolding same-key update
     messages-left b = rw (set-standing-is c l m)
 
-  pub after-end-waits : {Q : Program.Rows Row → Answer → Type 0} {counter : ℕ} {soonest : ℕ → ℕ} → T (ends-a-wait code) → (c : WaitQueue) (l : List ℕ) (p : Effect) (m : Program.Rows Row)
+  pub after-end-waits : {Q : Program.Rows Row → Answer → Type 0} {counter : ℕ} {soonest : ℕ → ℕ} → T (ends-a-wait code) →
+      (c : WaitQueue) (l : List ℕ) (p : Effect) (m : Program.Rows Row)
       → WellFormedRows counter soonest m → standing-in m c ≡ l
       → ((n : Program.Rows Row) → WellFormedRows counter soonest n → Emptied c m n → After Q p n) → After Q (end-waits l code p) m
   unfolding end-waits headD empty

@@ -83,7 +83,8 @@ module _ (e : Environment) (c : Call) (inside : e .counter < counter-span) {m : 
   for n f h = h
 
   -- A call of a task alone has a caller that may wait.
-  can-wait : (n : ℕ) (end : End) → Passes (seen m (numbered n c) v) (numbered n c) → T (task-only (numbered n c)) → EndAhead (e .counter) 1 end → CanWait (e .counter) (λ t. 1) m (c .caller) end
+  can-wait : (n : ℕ) (end : End) → Passes (seen m (numbered n c) v) (numbered n c) → T (task-only (numbered n c)) → EndAhead (e .counter) 1 end
+      → CanWait (e .counter) (λ t. 1) m (c .caller) end
   can-wait n end p h ahead = let own = cond-yes (task-only (numbered n c)) (m (task (c .caller))) (v .caller) h in
       record { defined = rw own at (caller-defined p h); able = rw own at (caller-able p h); end-ahead = ahead }
 
@@ -111,7 +112,8 @@ module _ (e : Environment) (c : Call) (inside : e .counter < counter-span) {m : 
       then for 4 snd-dtq (λ a p. send-kept (search (exists-already p tt, only-left)) Never (λ r f. can-wait 4 Never p tt tt))
       then for 5 psnd-dtq (λ a p. kept-send w (c .object) (search (exists-already p tt, only-left)) (c .value) _ (λ r f. after-return w))
       then for 6 tsnd-dtq (λ a p. send-kept (search (exists-already p tt, only-left)) _ (λ r f. can-wait 6 _ p tt (wait-ends p (e .counter) inside tt (search (r, f, or-left, yes-and)))))
-      then for 7 fsnd-dtq (λ a p. let d = only-left (m (queue (c .object)) .defined) (exists-already p tt) in kept-send w (c .object) d (c .value) _ (λ r f. kept-replace-oldest w (c .object) d r f (c .value) (something-to-drop p tt r)))
+      then for 7 fsnd-dtq (λ a p. let d = only-left (m (queue (c .object)) .defined) (exists-already p tt) in
+      kept-send w (c .object) d (c .value) _ (λ r f. kept-replace-oldest w (c .object) d r f (c .value) (something-to-drop p tt r)))
       then for 8 rcv-dtq (λ a p. receive-kept (search (exists-already p tt, only-left)) Never (λ n s. can-wait 8 Never p tt tt))
       then for 9 prcv-dtq (λ a p. kept-receive w (c .object) (search (exists-already p tt, only-left)) _ (λ n s. after-return w))
       then for 10 trcv-dtq (λ a p. receive-kept (search (exists-already p tt, only-left)) _ (λ n s. can-wait 10 _ p tt (wait-ends p (e .counter) inside tt (search (n, s, or-left, yes-and)))))
@@ -139,5 +141,6 @@ module _ (e : Environment) (c : Call) (inside : e .counter < counter-span) {m : 
   unfolding effect
   kept-effect = at-number KeptFor no-call effects beyond kept-effects (c .number)
 
-pub kept-accepted : (e : Environment) (c : Call) → e .counter < counter-span → {m : Program.Rows Row} → WellFormedRows (e .counter) (λ t. 1) m → Accepted Valid c → Passes (view-of m c) c → After (Kept (e .counter) (λ t. 1)) (effect e (view-of m c) c) m
+pub kept-accepted : (e : Environment) (c : Call) → e .counter < counter-span → {m : Program.Rows Row} → WellFormedRows (e .counter) (λ t. 1) m
+    → Accepted Valid c → Passes (view-of m c) c → After (Kept (e .counter) (λ t. 1)) (effect e (view-of m c) c) m
 kept-accepted e c inside {m} w a p = subst (λ v. Passes v c → After (Kept (e .counter) (λ t. 1)) (effect e v c) m) (view-seen m c a) (kept-effect e c inside w (view-of m c) a) p

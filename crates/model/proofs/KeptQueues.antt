@@ -49,7 +49,8 @@ module _ {counter : ℕ} {soonest : ℕ → ℕ} {m : Program.Rows Row} (w : Wel
   x = m (queue q)
 
   -- The queue, which is defined, with other words and other tasks waiting.
-  refit : (words senders receivers : List ℕ) → length words ≤ x .capacity → (T (not (empty senders)) → (length words ≡ x .capacity) × (receivers ≡ [])) → (T (not (empty receivers)) → (words ≡ []) × (senders ≡ []))
+  refit : (words senders receivers : List ℕ) → length words ≤ x .capacity → (T (not (empty senders)) → (length words ≡ x .capacity) × (receivers ≡ []))
+      → (T (not (empty receivers)) → (words ≡ []) × (senders ≡ []))
       → QueueWellFormed (with-receivers receivers (with-senders senders (with-words words x)))
   refit words senders receivers count sending receiving = record {
     undefined = λ d. absurd (T-not (x .defined) d defined);
@@ -79,7 +80,8 @@ module _ {counter : ℕ} {soonest : ℕ → ℕ} {m : Program.Rows Row} (w : Wel
       let longer = length-append (x .words) (word ∷ []) in
       after-put (after-return (put-words _ (omega arith) (λ s. let full = w .queues q .senders s .0 in absurd (omega arith)) (λ r. absurd (T-not (empty (x .receivers)) r no-receiver))))
 
-  pub kept-send : (word : ℕ) (otherwise : Effect) → (T (empty (x .receivers)) → T (not (has-room x)) → After (Kept counter soonest) otherwise m) → After (Kept counter soonest) (send q x word otherwise) m
+  pub kept-send : (word : ℕ) (otherwise : Effect) → (T (empty (x .receivers)) → T (not (has-room x)) → After (Kept counter soonest) otherwise m)
+      → After (Kept counter soonest) (send q x word otherwise) m
   unfolding send
   kept-send word otherwise h = after-if (kept-deliver word) (λ none. after-if (λ room. kept-store word room (T-not-not (empty (x .receivers)) none)) (h (T-not-not (empty (x .receivers)) none)))
 
@@ -120,8 +122,10 @@ module _ {counter : ℕ} {soonest : ℕ → ℕ} {m : Program.Rows Row} (w : Wel
     refilled words some-sender stored =
         let y = with-words words x in
         let is-y = update-same same-key (queue q) y m in
-        subst (λ (n : Program.Rows Row). WellFormedRows counter soonest (update same-key (task (headD (x .senders) 0)) (ended E-OK 0 (m (task (headD (x .senders) 0)))) n)) (put-twice (queue q) y (with-senders (tail (x .senders)) y) m)
-        (subst (λ (z : QueueRow). WellFormedRows counter soonest (update same-key (task (headD (z .senders) 0)) (ended E-OK 0 (m (task (headD (z .senders) 0)))) (update same-key (queue q) (with-senders (tail (z .senders)) z) (update same-key (queue q) y m)))) is-y
+        subst (λ (n : Program.Rows Row). WellFormedRows counter soonest (update same-key (task (headD (x .senders) 0)) (ended E-OK 0 (m (task (headD (x .senders) 0)))) n))
+        (put-twice (queue q) y (with-senders (tail (x .senders)) y) m)
+        (subst (λ (z : QueueRow). WellFormedRows counter soonest (update same-key (task (headD (z .senders) 0)) (ended E-OK 0 (m (task (headD (z .senders) 0))))
+        (update same-key (queue q) (with-senders (tail (z .senders)) z) (update same-key (queue q) y m)))) is-y
         (leave-head stored (senders-of q) E-OK 0 tt (subst (λ (z : QueueRow). T (not (empty (z .senders)))) (sym is-y) some-sender)))
 
     kept-take-oldest-and-refill : T (not (empty (x .senders))) → After (Kept counter soonest) (take-oldest-and-refill q x) m
@@ -130,20 +134,23 @@ module _ {counter : ℕ} {soonest : ℕ → ℕ} {m : Program.Rows Row} (w : Wel
         let y = w .queues q .senders some-sender in
         let count = w .queues q .count in
         let same = length-replaced (x .words) (held-word (m (task (headD (x .senders) 0)) .wait)) some-word in
-        after-get (after-put (after-put (after-return (refilled _ some-sender (put-words _ (omega arith) (λ s. same ∙ y .0) (λ r. absurd (T-not (empty (x .words)) some-word (subst (λ (l : List ℕ). T (empty l)) (sym (w .queues q .receivers r .0)) tt))))))))
+        after-get (after-put (after-put (after-return (refilled _ some-sender
+        (put-words _ (omega arith) (λ s. same ∙ y .0) (λ r. absurd (T-not (empty (x .words)) some-word (subst (λ (l : List ℕ). T (empty l)) (sym (w .queues q .receivers r .0)) tt))))))))
 
   kept-take-from-sender : T (not (empty (x .senders))) → After (Kept counter soonest) (take-from-sender q x) m
   unfolding take-from-sender set-standing same-key update
   kept-take-from-sender some-sender = after-get (after-put (after-put (after-return (leave-head w (senders-of q) E-OK 0 tt some-sender))))
 
-  pub kept-receive : (otherwise : Effect) → (T (empty (x .words)) → T (empty (x .senders)) → After (Kept counter soonest) otherwise m) → After (Kept counter soonest) (receive q x otherwise) m
+  pub kept-receive : (otherwise : Effect) → (T (empty (x .words)) → T (empty (x .senders)) → After (Kept counter soonest) otherwise m)
+      → After (Kept counter soonest) (receive q x otherwise) m
   unfolding receive
   kept-receive otherwise h =
       after-if (λ words. after-if (kept-take-oldest words) (kept-take-oldest-and-refill words))
       (λ none. after-if kept-take-from-sender (λ no-sender. h (T-not-not (empty (x .words)) none) (T-not-not (empty (x .senders)) no-sender)))
 
   -- At an empty queue with no sender.
-  pub kept-wait-to-receive : (me : ℕ) (end : End) → T (empty (x .words)) → T (empty (x .senders)) → CanWait counter soonest m me end → After (Kept counter soonest) (wait-to-receive q x me (m (task me)) end) m
+  pub kept-wait-to-receive : (me : ℕ) (end : End) → T (empty (x .words)) → T (empty (x .senders)) → CanWait counter soonest m me end
+      → After (Kept counter soonest) (wait-to-receive q x me (m (task me)) end) m
   unfolding wait-to-receive set-standing
   kept-wait-to-receive me end no-word no-sender can =
       after-put (after-put (after-return (rw (insert-at-end me (x .receivers)) at
@@ -155,7 +162,8 @@ module _ {counter : ℕ} {soonest : ℕ → ℕ} {m : Program.Rows Row} (w : Wel
 
 module _ {counter : ℕ} {soonest : ℕ → ℕ} {m : Program.Rows Row} (w : WellFormedRows counter soonest m) (q : ℕ) where
   -- A whole row, where no task waits before and after.
-  replace-queue : (v : QueueRow) → T (valid (queue q)) → m (queue q) .senders ≡ [] → m (queue q) .receivers ≡ [] → v .attribute ≤ 1 → v .capacity ≤ capacity-limit → v .words ≡ [] → v .senders ≡ [] → v .receivers ≡ []
+  replace-queue : (v : QueueRow) → T (valid (queue q)) → m (queue q) .senders ≡ [] → m (queue q) .receivers ≡ []
+      → v .attribute ≤ 1 → v .capacity ≤ capacity-limit → v .words ≡ [] → v .senders ≡ [] → v .receivers ≡ []
       → WellFormedRows counter soonest (update same-key (queue q) v m)
   unfolding empty
   replace-queue v valid-queue no-sender no-receiver attribute capacity words senders receivers = put-queue w q v valid-queue
@@ -173,7 +181,8 @@ module _ {counter : ℕ} {soonest : ℕ → ℕ} {m : Program.Rows Row} (w : Wel
       not-empty e t = rw e at t
 
 module _ {counter : ℕ} {soonest : ℕ → ℕ} {m : Program.Rows Row} (w : WellFormedRows counter soonest m) (e : Environment) (v : View) (c : Call) where
-  pub kept-create-queue : T (valid (queue (c .object))) → T (not (m (queue (c .object)) .defined)) → c .attribute ≤ 1 → capacity-of c ≤ capacity-limit → After (Kept counter soonest) (cre-dtq e v c) m
+  pub kept-create-queue : T (valid (queue (c .object))) → T (not (m (queue (c .object)) .defined)) → c .attribute ≤ 1 → capacity-of c ≤ capacity-limit
+      → After (Kept counter soonest) (cre-dtq e v c) m
   kept-create-queue valid-queue undefined attribute capacity =
       let before = w .queues (c .object) .undefined undefined in
       after-put (after-return (replace-queue w (c .object) _ valid-queue (before .1) (before .2) attribute capacity refl refl refl))
@@ -182,7 +191,8 @@ module _ {counter : ℕ} {soonest : ℕ → ℕ} {m : Program.Rows Row} (w : Wel
   kept-delete-queue shown defined =
       after-end-waits E-DLT tt (senders-of (c .object)) (v .the-queue .senders) _ m w (ap (λ (y : QueueRow). y .senders) shown) λ n u a.
       after-end-waits E-DLT tt (receivers-of (c .object)) (v .the-queue .receivers) _ n u (a .other-lists (receivers-of (c .object)) other ∙ ap (λ (y : QueueRow). y .receivers) shown) λ o z b.
-      after-put (after-return (replace-queue z (c .object) no-queue (defined-queue w (c .object) defined) (b .other-lists (senders-of (c .object)) (λ e. other (sym e)) ∙ a .no-one) (b .no-one) (omega arith) (omega arith) refl refl refl))
+      after-put (after-return (replace-queue z (c .object) no-queue (defined-queue w (c .object) defined)
+      (b .other-lists (senders-of (c .object)) (λ e. other (sym e)) ∙ a .no-one) (b .no-one) (omega arith) (omega arith) refl refl refl))
     where
       other : receivers-of (c .object) ≡ senders-of (c .object) → ⊥
       other e = let z : true ≡ false = cc in true≢false z

@@ -39,7 +39,8 @@ with-ends w ends = record {
 outside : (t : ℕ) → (1 ≤ t → t ≤ task-limit → ⊥) → T (not (valid (task t)))
 outside t f = not-T (valid (task t)) (λ h. let k = and-yes (leb 1 t) (leb t task-limit) h in f (leb→le 1 t (k .0)) (leb→le t task-limit (k .1)))
 
-outside-ends : {counter : ℕ} {soonest : ℕ → ℕ} {m : Program.Rows Row} → WellFormedRows counter soonest m → (later least t : ℕ) → T (not (valid (task t))) → EndAhead later least (wait-end (m (task t) .wait))
+outside-ends : {counter : ℕ} {soonest : ℕ → ℕ} {m : Program.Rows Row} → WellFormedRows counter soonest m
+    → (later least t : ℕ) → T (not (valid (task t))) → EndAhead later least (wait-end (m (task t) .wait))
 outside-ends w later least t n = subst (λ (x : TaskRow). EndAhead later least (wait-end (x .wait))) (sym (w .in-range (task t) n)) tt
 
 -- One tick later an end is one tick nearer.
@@ -87,14 +88,17 @@ module _ (counter : ℕ) (inside : counter < counter-span) where
         go false h k = after (k tt)
 
   -- The next task's end is 1 tick or more away: its turn is over.
-  turn-over : (first : ℕ) {m : Program.Rows Row} → WellFormedRows counter (soonest-from first) m → EndAhead counter 1 (wait-end (m (task first) .wait)) → WellFormedRows counter (soonest-from (suc first)) m
-  turn-over first {m} w own = with-ends w (λ t. at-turn (suc first) t (wait-end (m (task t) .wait)) (λ h. go t h (ℕ-discrete t first)) (λ h. from-turn first t (wait-end (m (task t) .wait)) (omega arith) (w .tasks t .end)))
+  turn-over : (first : ℕ) {m : Program.Rows Row} → WellFormedRows counter (soonest-from first) m → EndAhead counter 1 (wait-end (m (task first) .wait))
+      → WellFormedRows counter (soonest-from (suc first)) m
+  turn-over first {m} w own = with-ends w (λ t. at-turn (suc first) t (wait-end (m (task t) .wait))
+      (λ h. go t h (ℕ-discrete t first)) (λ h. from-turn first t (wait-end (m (task t) .wait)) (omega arith) (w .tasks t .end)))
     where
       go : (t : ℕ) → t < suc first → Dec (t ≡ first) → EndAhead counter 1 (wait-end (m (task t) .wait))
       go t h (yes e) = rw e own
       go t h (no n) = before-turn first t (wait-end (m (task t) .wait)) (omega arith) (w .tasks t .end)
 
-  kept-expire : (n first count : ℕ) (m : Program.Rows Row) → first + n ≡ suc task-limit → WellFormedRows counter (soonest-from first) m → After (Kept counter (λ t. 1)) (expire counter (ascending first n) count) m
+  kept-expire : (n first count : ℕ) (m : Program.Rows Row) → first + n ≡ suc task-limit
+      → WellFormedRows counter (soonest-from first) m → After (Kept counter (λ t. 1)) (expire counter (ascending first n) count) m
   unfolding expire ascending
   kept-expire zero first count m all w = after-return (with-ends w ends)
     where
@@ -107,7 +111,8 @@ module _ (counter : ℕ) (inside : counter < counter-span) where
       after-get (after-if
       (λ is-due. kept-end-wait w first E-TMOUT _ tt (due-waits counter (m (task first) .wait) is-due)
       (λ o u no-wait. kept-expire n (suc first) (suc count) o (omega arith) (turn-over first u (subst (λ (x : Wait). EndAhead counter 1 (wait-end x)) (sym no-wait) tt))))
-      (λ no-end. kept-expire n (suc first) count m (omega arith) (turn-over first w (not-due counter (wait-end (m (task first) .wait)) inside (from-turn first first (wait-end (m (task first) .wait)) (omega arith) (w .tasks first .end)) no-end))))
+      (λ no-end. kept-expire n (suc first) count m (omega arith)
+      (turn-over first w (not-due counter (wait-end (m (task first) .wait)) inside (from-turn first first (wait-end (m (task first) .wait)) (omega arith) (w .tasks first .end)) no-end))))
 
 pub kept-tick : (m : Model) → WellFormed m → WellFormed (tick m .state)
 unfolding tick

@@ -64,10 +64,12 @@ module _ {counter : ℕ} {soonest : ℕ → ℕ} {m : Program.Rows Row} (w : Wel
         same (suspension t) = refl
         same (queue q) = refl
         same (mailbox j) = refl
-        same (message j) = message-cases g m (λ i y. y ≡ rows i) x (sym (update-same ℕ-discrete g x (λ j. m (message j)))) j (λ n. sym (update-other ℕ-discrete g x (λ j. m (message j)) j n))
+        same (message j) = message-cases g m (λ i y. y ≡ rows i) x (sym (update-same ℕ-discrete g x (λ j. m (message j))))
+            j (λ n. sym (update-other ℕ-discrete g x (λ j. m (message j)) j n))
 
         in-range : (j : ℕ) → T (not (valid (message j))) → rows j ≡ free
-        in-range j = update-cases ℕ-discrete (λ i y. T (not (valid (message i))) → y ≡ free) g x (λ j. m (message j)) (λ n. absurd (T-not (valid (message g)) n valid-message)) j (λ d. w .in-range (message j))
+        in-range j = update-cases ℕ-discrete (λ i y. T (not (valid (message i))) → y ≡ free) g x (λ j. m (message j))
+            (λ n. absurd (T-not (valid (message g)) n valid-message)) j (λ d. w .in-range (message j))
 
         priorities : (k j : ℕ) → k ≢ b → In j (m (mailbox k) .messages) → m (message j) .priority ≡ rows j .priority
         priorities k j n i = ap (λ (y : MessageRow). y .priority) (sym (update-other ℕ-discrete g x (λ j. m (message j)) j (λ e. only-here k n (rw e at (w .queued .no-other j k i)))))
@@ -78,7 +80,12 @@ module _ {counter : ℕ} {soonest : ℕ → ℕ} {m : Program.Rows Row} (w : Wel
       → WellFormedRows counter soonest (update same-key (message g) (record { queued-in = b; priority = p }) (update same-key (mailbox b) (with-messages (insert-at n g (m (mailbox b) .messages)) (m (mailbox b))) m))
   join-message g n p defined no-waiter valid-message is-free place =
       message-moved g x l valid-message
-      (record { undefined = λ d. absurd (T-not (m (mailbox b) .defined) d defined); attribute-in-range = w .mailboxes b .attribute-in-range; highest-in-range = w .mailboxes b .highest-in-range; waiters = λ s. absurd (T-not (empty (m (mailbox b) .waiters)) s no-waiter) })
+      (record {
+        undefined = λ d. absurd (T-not (m (mailbox b) .defined) d defined);
+        attribute-in-range = w .mailboxes b .attribute-in-range;
+        highest-in-range = w .mailboxes b .highest-in-range;
+        waiters = λ s. absurd (T-not (empty (m (mailbox b) .waiters)) s no-waiter);
+      })
       (λ k d e. Option·none-ne-some k (sym nowhere ∙ e))
       (stands-join ℕ-discrete (w .queued) b (other-lists g x l) g (other-names g x l) nowhere (own-name g x l ∙ names-mailbox b p valid-mailbox) n (own-list g x l))
       (λ q. in-order-with (λ j. rows g x l j .priority) g old n (rw (own, others) (place q .2)) (rw own (place q .0)) (rw own (place q .1)) (rw others (w .queued-in-order b q)))
@@ -99,14 +106,20 @@ module _ {counter : ℕ} {soonest : ℕ → ℕ} {m : Program.Rows Row} (w : Wel
       own = ap (λ (y : MessageRow). y .priority) (update-same ℕ-discrete g x (λ j. m (message j)))
 
       others : map (λ j. rows g x l j .priority) old ≡ map (λ j. m (message j) .priority) old
-      others = map-members _ _ old (λ j i. ap (λ (y : MessageRow). y .priority) (update-other ℕ-discrete g x (λ j. m (message j)) j (λ e. Option·none-ne-some b (sym nowhere ∙ rw e at (w .queued .no-other j b i)))))
+      others = map-members _ _ old (λ j i. ap (λ (y : MessageRow). y .priority)
+          (update-other ℕ-discrete g x (λ j. m (message j)) j (λ e. Option·none-ne-some b (sym nowhere ∙ rw e at (w .queued .no-other j b i)))))
 
   -- The head message leaves.
   pub take-head : T (not (empty (m (mailbox b) .messages)))
       → WellFormedRows counter soonest (update same-key (message (headD (m (mailbox b) .messages) 0)) free (update same-key (mailbox b) (with-messages (tail (m (mailbox b) .messages)) (m (mailbox b))) m))
   take-head some-message =
       message-moved g free (tail old) (is-valid w (message g) (λ e. Option·none-ne-some b (rw e at here)))
-      (record { undefined = λ d. (w .mailboxes b .undefined d .0, ap tail (w .mailboxes b .undefined d .1)); attribute-in-range = w .mailboxes b .attribute-in-range; highest-in-range = w .mailboxes b .highest-in-range; waiters = λ s. ap tail (w .mailboxes b .waiters s) })
+      (record {
+        undefined = λ d. (w .mailboxes b .undefined d .0, ap tail (w .mailboxes b .undefined d .1));
+        attribute-in-range = w .mailboxes b .attribute-in-range;
+        highest-in-range = w .mailboxes b .highest-in-range;
+        waiters = λ s. ap tail (w .mailboxes b .waiters s);
+      })
       (λ k d e. d (Option·some-injective k b (sym e ∙ here)))
       stands
       (λ q. rw others (rw (without-head old some-message) at (in-order-without (λ j. m (message j) .priority) g old (w .queued-in-order b q))))
@@ -121,7 +134,8 @@ module _ {counter : ℕ} {soonest : ℕ → ℕ} {m : Program.Rows Row} (w : Wel
       here = w .queued .no-other g b (in-head old some-message)
 
       stands : StandsWhereNamed (λ j. update same-key (mailbox b) (box g free (tail old)) m (mailbox j) .messages) (λ j. named-mailbox (rows g free (tail old) j))
-      stands = stands-leave ℕ-discrete (w .queued) b (other-lists g free (tail old)) g (other-names g free (tail old)) here (own-name g free (tail old)) (own-list g free (tail old) ∙ sym (without-head old some-message))
+      stands = stands-leave ℕ-discrete (w .queued) b (other-lists g free (tail old)) g (other-names g free (tail old))
+          here (own-name g free (tail old)) (own-list g free (tail old) ∙ sym (without-head old some-message))
 
       stays : (j : ℕ) → In j (tail old) → j ≢ g
       stays j i e = Option·none-ne-some b (sym (own-name g free (tail old)) ∙ rw e at (stands .no-other j b (rw (own-list g free (tail old)) i)))
@@ -130,7 +144,8 @@ module _ {counter : ℕ} {soonest : ℕ → ℕ} {m : Program.Rows Row} (w : Wel
       others = map-members _ _ (tail old) (λ j i. ap (λ (y : MessageRow). y .priority) (update-other ℕ-discrete g free (λ j. m (message j)) j (stays j i)))
 
   -- All messages are freed, and the mailbox gets another row, where no task waits before and after.
-  pub replace-mailbox : (v : MailboxRow) → m (mailbox b) .waiters ≡ [] → v .attribute ≤ 3 → (T (messages-by-priority (v .attribute)) → (1 ≤ v .highest) × (v .highest ≤ priority-limit)) → v .waiters ≡ [] → v .messages ≡ []
+  pub replace-mailbox : (v : MailboxRow) → m (mailbox b) .waiters ≡ [] → v .attribute ≤ 3 → (T (messages-by-priority (v .attribute)) → (1 ≤ v .highest) × (v .highest ≤ priority-limit))
+      → v .waiters ≡ [] → v .messages ≡ []
       → WellFormedRows counter soonest (update same-key (mailbox b) v (with-message-rows (freed (m (mailbox b) .messages) m) m))
   unfolding empty
   replace-mailbox v no-waiter attribute highest waiters messages =
@@ -143,13 +158,15 @@ module _ {counter : ℕ} {soonest : ℕ → ℕ} {m : Program.Rows Row} (w : Wel
       (λ g i. ap named-mailbox (cond-member g old free (m (message g)) i)) (λ g f. ap named-mailbox (cond-no-member g old free (m (message g)) f))
       (ap (λ (y : MailboxRow). y .messages) (update-same same-key (mailbox b) v m) ∙ messages))
       (λ q. rw messages no-key)
-      (λ j g n i. ap (λ (y : MessageRow). y .priority) (sym (cond-no-member g old free (m (message g)) (λ h. n (Option·some-injective j b (sym (w .queued .no-other g j i) ∙ w .queued .no-other g b h))))))
+      (λ j g n i. ap (λ (y : MessageRow). y .priority) (sym (cond-no-member g old free (m (message g))
+      (λ h. n (Option·some-injective j b (sym (w .queued .no-other g j i) ∙ w .queued .no-other g b h))))))
     where
       old : List ℕ
       old = m (mailbox b) .messages
 
   -- Where it has no messages, none is freed.
-  pub new-mailbox : (v : MailboxRow) → m (mailbox b) .waiters ≡ [] → m (mailbox b) .messages ≡ [] → v .attribute ≤ 3 → (T (messages-by-priority (v .attribute)) → (1 ≤ v .highest) × (v .highest ≤ priority-limit)) → v .waiters ≡ [] → v .messages ≡ []
+  pub new-mailbox : (v : MailboxRow) → m (mailbox b) .waiters ≡ [] → m (mailbox b) .messages ≡ [] → v .attribute ≤ 3
+      → (T (messages-by-priority (v .attribute)) → (1 ≤ v .highest) × (v .highest ≤ priority-limit)) → v .waiters ≡ [] → v .messages ≡ []
       → WellFormedRows counter soonest (update same-key (mailbox b) v m)
   unfolding one-of
   new-mailbox v no-waiter no-message attribute highest waiters messages =

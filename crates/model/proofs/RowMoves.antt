@@ -47,7 +47,8 @@ module _ (m n : Program.Rows Row) (queues : (q : ℕ) → m (queue q) ≡ n (que
   same-standing (receivers-of q) = ap (λ (x : QueueRow). x .receivers) (queues q)
   same-standing (waiters-of b) = ap (λ (x : MailboxRow). x .waiters) (mailboxes b)
 
-  same-order : (f : ℕ → ℕ) → ((d : WaitQueue) → T (by-priority m d) → InOrder 1 priority-limit (map f (standing-in m d))) → (d : WaitQueue) → T (by-priority n d) → InOrder 1 priority-limit (map f (standing-in n d))
+  same-order : (f : ℕ → ℕ) → ((d : WaitQueue) → T (by-priority m d) → InOrder 1 priority-limit (map f (standing-in m d)))
+      → (d : WaitQueue) → T (by-priority n d) → InOrder 1 priority-limit (map f (standing-in n d))
   same-order f order (senders-of q) = subst (λ (x : QueueRow). T (senders-by-priority (x .attribute)) → InOrder 1 priority-limit (map f (x .senders))) (queues q) (order (senders-of q))
   same-order f order (receivers-of q) = λ p. absurd p
   same-order f order (waiters-of b) = subst (λ (x : MailboxRow). T (waiters-by-priority (x .attribute)) → InOrder 1 priority-limit (map f (x .waiters))) (mailboxes b) (order (waiters-of b))
@@ -81,7 +82,8 @@ module _ {counter : ℕ} {soonest : ℕ → ℕ} {m : Program.Rows Row} (w : Wel
       same (waiters-of b) = refl
 
       in-order : (d : WaitQueue) → T (by-priority (update same-key (queue q) v m) d) → InOrder 1 priority-limit (map (λ j. m (task j) .priority) (standing-in (update same-key (queue q) v m) d))
-      in-order (senders-of j) = queue-cases q m (λ i x. T (senders-by-priority (x .attribute)) → InOrder 1 priority-limit (map (λ j. m (task j) .priority) (x .senders))) v order j (λ n. w .waiting-in-order (senders-of j))
+      in-order (senders-of j) = queue-cases q m (λ i x. T (senders-by-priority (x .attribute)) → InOrder 1 priority-limit (map (λ j. m (task j) .priority) (x .senders)))
+          v order j (λ n. w .waiting-in-order (senders-of j))
       in-order (receivers-of j) = λ n. absurd n
       in-order (waiters-of b) = w .waiting-in-order (waiters-of b)
 
@@ -95,7 +97,8 @@ module _ {counter : ℕ} {soonest : ℕ → ℕ} {m : Program.Rows Row} (w : Wel
     suspensions = λ j. task-cases t m (λ i x. T (m (suspension i)) → T (x .defined)) v (λ s. defined) j (λ n. w .suspensions j);
     queues = w .queues;
     mailboxes = w .mailboxes;
-    waiting = waiting-kept m n (same-standing m n (λ q. refl) (λ b. refl)) (λ j. task-cases t m (λ i x. wait-queue (m (task i) .wait) ≡ wait-queue (x .wait)) v (ap wait-queue (before ∙ sym after)) j (λ n. refl)) (w .waiting);
+    waiting = waiting-kept m n (same-standing m n (λ q. refl) (λ b. refl))
+        (λ j. task-cases t m (λ i x. wait-queue (m (task i) .wait) ≡ wait-queue (x .wait)) v (ap wait-queue (before ∙ sym after)) j (λ n. refl)) (w .waiting);
     waiting-in-order = same-order m n (λ q. refl) (λ b. refl) (λ j. n (task j) .priority) in-order;
     queued = w .queued;
     queued-in-order = w .queued-in-order;
@@ -105,7 +108,8 @@ module _ {counter : ℕ} {soonest : ℕ → ℕ} {m : Program.Rows Row} (w : Wel
       n = update same-key (task t) v m
 
       priority : (d : WaitQueue) (j : ℕ) → In j (standing-in m d) → n (task j) .priority ≡ m (task j) .priority
-      priority d j = task-cases t m (λ i x. In i (standing-in m d) → x .priority ≡ m (task i) .priority) v (λ i. absurd (Option·none-ne-some d (ap wait-queue (sym before) ∙ w .waiting .no-other t d i))) j (λ n i. refl)
+      priority d j = task-cases t m (λ i x. In i (standing-in m d) → x .priority ≡ m (task i) .priority) v
+          (λ i. absurd (Option·none-ne-some d (ap wait-queue (sym before) ∙ w .waiting .no-other t d i))) j (λ n i. refl)
 
       in-order : (d : WaitQueue) → T (by-priority m d) → InOrder 1 priority-limit (map (λ j. n (task j) .priority) (standing-in m d))
       in-order d p = rw (map-members (λ j. n (task j) .priority) (λ j. m (task j) .priority) (standing-in m d) (priority d)) (w .waiting-in-order d p)
@@ -166,4 +170,5 @@ module _ {counter : ℕ} {soonest : ℕ → ℕ} {m : Program.Rows Row} (w : Wel
           → InOrder 1 priority-limit (map (λ j. m (task j) .priority) (standing-in (update same-key (mailbox b) v (with-message-rows messages m)) d))
       in-order (senders-of q) = w .waiting-in-order (senders-of q)
       in-order (receivers-of q) = w .waiting-in-order (receivers-of q)
-      in-order (waiters-of j) = mailbox-cases b m (λ i x. T (waiters-by-priority (x .attribute)) → InOrder 1 priority-limit (map (λ j. m (task j) .priority) (x .waiters))) v order j (λ n. w .waiting-in-order (waiters-of j))
+      in-order (waiters-of j) = mailbox-cases b m (λ i x. T (waiters-by-priority (x .attribute)) → InOrder 1 priority-limit (map (λ j. m (task j) .priority) (x .waiters)))
+          v order j (λ n. w .waiting-in-order (waiters-of j))

@@ -48,10 +48,12 @@ module _ (n : ℕ) (m : Program.Rows Row) where
 
 -- Of two rows put at one key the second stays.
 pub put-twice : (k : Key) (u v : Row k) (m : Program.Rows Row) → update same-key k v (update same-key k u m) ≡ update same-key k v m
-put-twice k u v m = fun-ext (λ j. update-cases same-key (λ i y. y ≡ update same-key k v m i) k v (update same-key k u m) (sym (update-same same-key k v m)) j (λ n. update-other same-key k u m j n ∙ sym (update-other same-key k v m j n)))
+put-twice k u v m = fun-ext (λ j. update-cases same-key (λ i y. y ≡ update same-key k v m i) k v (update same-key k u m) (sym (update-same same-key k v m)) j
+    (λ n. update-other same-key k u m j n ∙ sym (update-other same-key k v m j n)))
 
 -- Nothing stands beyond the limits after a valid row was put.
-pub put-in-range : {m : Program.Rows Row} → ((k : Key) → T (not (valid k)) → m k ≡ nothing k) → (k : Key) (v : Row k) → T (valid k) → (j : Key) → T (not (valid j)) → update same-key k v m j ≡ nothing j
+pub put-in-range : {m : Program.Rows Row} → ((k : Key) → T (not (valid k)) → m k ≡ nothing k) → (k : Key) (v : Row k) → T (valid k)
+    → (j : Key) → T (not (valid j)) → update same-key k v m j ≡ nothing j
 put-in-range {m} h k v t j = update-cases same-key (λ i x. T (not (valid i)) → x ≡ nothing i) k v m (λ n. absurd (T-not (valid k) n t)) j (λ d. h j)
 
 -- ── Wait queues ──

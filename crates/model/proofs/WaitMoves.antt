@@ -69,7 +69,8 @@ module _ (m : Program.Rows Row) (c : WaitQueue) (l : List ℕ) (t : ℕ) (row : 
     lists-in-range (mailbox b) n = rw (as-before (waiters-of b) n) (w .in-range (mailbox b) n)
     lists-in-range (message g) n = w .in-range (message g) n
 
-    queues : (c : WaitQueue) → ((d : WaitQueue) → ObjectWellFormed m d (changed same-queue c l (standing-in m) d)) → (q : ℕ) → QueueWellFormed (with-standing (changed same-queue c l (standing-in m)) m (queue q))
+    queues : (c : WaitQueue) → ((d : WaitQueue) → ObjectWellFormed m d (changed same-queue c l (standing-in m) d))
+        → (q : ℕ) → QueueWellFormed (with-standing (changed same-queue c l (standing-in m)) m (queue q))
     unfolding same-queue update
     queues (senders-of p) h q = h (senders-of q)
     queues (receivers-of p) h q = h (receivers-of q)
@@ -196,11 +197,18 @@ module _ {counter : ℕ} {soonest : ℕ → ℕ} {m : Program.Rows Row} (w : Wel
         let priority = w .tasks t .priority-in-range defined in
         rw (set-standing-is c l m)
         (wait-moved m c l t row w object (defined-task t defined) fits
-        (record { undefined = λ d. absurd (T-not (m (task t) .defined) d defined); priority-in-range = w .tasks t .priority-in-range; object-in-range = rw (named-object wait c e) object; code = tt; end = ahead }) refl refl
+        (record {
+          undefined = λ d. absurd (T-not (m (task t) .defined) d defined);
+          priority-in-range = w .tasks t .priority-in-range;
+          object-in-range = rw (named-object wait c e) object;
+          code = tt;
+          end = ahead;
+        }) refl refl
         (λ b. in-order-with (λ j. m (task j) .priority) t (standing-in m c) n (place b) (priority .0) (priority .1) (w .waiting-in-order c b))
         (stands-join same-queue (w .waiting) c (update-other same-queue c l (standing-in m)) t (other-waits m c l t row) (ap wait-queue able) (own-wait m c l t row ∙ e) n (update-same same-queue c l (standing-in m))))
 
   -- The wait of the head ends.
   pub leave-head : (c : WaitQueue) (code : Code) (word : ℕ) → T (ends-a-wait code) → T (not (empty (standing-in m c)))
       → WellFormedRows counter soonest (update same-key (task (headD (standing-in m c) 0)) (ended code word (m (task (headD (standing-in m c) 0)))) (set-standing c (tail (standing-in m c)) m))
-  leave-head c code word ends some-task = rw (without-head (standing-in m c) some-task) at (leave (headD (standing-in m c) 0) c code word ends (w .waiting .no-other (headD (standing-in m c) 0) c (in-head (standing-in m c) some-task)))
+  leave-head c code word ends some-task = rw (without-head (standing-in m c) some-task) at
+      (leave (headD (standing-in m c) 0) c code word ends (w .waiting .no-other (headD (standing-in m c) 0) c (in-head (standing-in m c) some-task)))

@@ -63,7 +63,14 @@ empty-well-formed counter inside = record {
     in-range = λ k n. refl;
     tasks = λ t. record { undefined = λ n. refl; priority-in-range = λ d. absurd d; object-in-range = tt; code = tt; end = tt };
     suspensions = λ t s. absurd s;
-    queues = λ q. record { undefined = λ n. (refl, refl, refl); attribute-in-range = omega arith; capacity-in-range = omega arith; count = omega arith; senders = λ s. absurd s; receivers = λ r. absurd r };
+    queues = λ q. record {
+      undefined = λ n. (refl, refl, refl);
+      attribute-in-range = omega arith;
+      capacity-in-range = omega arith;
+      count = omega arith;
+      senders = λ s. absurd s;
+      receivers = λ r. absurd r;
+    };
     mailboxes = λ b. record { undefined = λ n. (refl, refl); attribute-in-range = omega arith; highest-in-range = λ p. absurd p; waiters = λ s. absurd s };
     waiting = stands-nowhere no-task-waits (λ t. refl);
     waiting-in-order = in-order;
