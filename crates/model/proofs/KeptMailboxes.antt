@@ -97,8 +97,8 @@ module _ {counter : ℕ} {soonest : ℕ → ℕ} {m : Program.Rows Row} (w : Wel
   pub kept-delete-mailbox : m (mailbox (c .object)) ≡ v .the-mailbox → T (m (mailbox (c .object)) .defined) → After (Kept counter soonest) (del-mbx e v c) m
   unfolding one-of
   kept-delete-mailbox shown defined =
-      after-end-waits E-DLT tt (waiters-of (c .object)) (v .the-mailbox .waiters) _ m w (ap (λ (y : MailboxRow). y .waiters) shown) λ n u a.
-      after-free-messages (v .the-mailbox .messages) _ n (after-put (after-return
+      after-end-waits E-DLT tt (waiters-of (c .object)) _ _ m w (ap (λ (y : MailboxRow). y .waiters) shown) λ n u a.
+      after-free-messages _ _ n (after-put (after-return
       (subst (λ (l : List ℕ). WellFormedRows counter soonest (update same-key (mailbox (c .object)) no-mailbox (with-message-rows (freed l n) n)))
       (a .messages (c .object) ∙ ap (λ (y : MailboxRow). y .messages) shown)
       (replace-mailbox u (c .object) (defined-mailbox w (c .object) defined) no-mailbox (a .no-one) (omega arith) (λ p. absurd p) refl refl))))

@@ -189,8 +189,8 @@ module _ {counter : ℕ} {soonest : ℕ → ℕ} {m : Program.Rows Row} (w : Wel
 
   pub kept-delete-queue : m (queue (c .object)) ≡ v .the-queue → T (m (queue (c .object)) .defined) → After (Kept counter soonest) (del-dtq e v c) m
   kept-delete-queue shown defined =
-      after-end-waits E-DLT tt (senders-of (c .object)) (v .the-queue .senders) _ m w (ap (λ (y : QueueRow). y .senders) shown) λ n u a.
-      after-end-waits E-DLT tt (receivers-of (c .object)) (v .the-queue .receivers) _ n u (a .other-lists (receivers-of (c .object)) other ∙ ap (λ (y : QueueRow). y .receivers) shown) λ o z b.
+      after-end-waits E-DLT tt (senders-of (c .object)) _ _ m w (ap (λ (y : QueueRow). y .senders) shown) λ n u a.
+      after-end-waits E-DLT tt (receivers-of (c .object)) _ _ n u (a .other-lists (receivers-of (c .object)) other ∙ ap (λ (y : QueueRow). y .receivers) shown) λ o z b.
       after-put (after-return (replace-queue z (c .object) no-queue (defined-queue w (c .object) defined)
       (b .other-lists (senders-of (c .object)) (λ e. other (sym e)) ∙ a .no-one) (b .no-one) (omega arith) (omega arith) refl refl refl))
     where
