@@ -6,3 +6,17 @@ pub mod Accepted
 pub mod Footprints
 pub mod Refusals
 pub mod Isolation
+pub mod Choices
+pub mod Standing
+pub mod WaitMoves
+pub mod RowMoves
+pub mod MessageMoves
+pub mod After
+pub mod EndWaits
+pub mod KeptQueues
+pub mod KeptMailboxes
+pub mod KeptTasks
+pub mod Checked
+pub mod KeptCalls
+pub mod KeptTick
+pub mod WellFormed

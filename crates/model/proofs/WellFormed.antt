@@ -1,0 +1,113 @@
+-- Every call and the tick keep a model well-formed, the empty model is well-formed, and a well-formed model is linked: a call by cases, refused or accepted.
+use mathlib.Core.Path.{_≡_, refl, ap, subst}
+use mathlib.Core.Bool.{Bool, true, false, not, cond}
+use mathlib.Core.List.{[], map}
+use mathlib.Core.Option.{some, none, Option·none-ne-some, Option·some-injective}
+use Prim.Native.Nat.{ℕ}
+use native.Mathlib.Omega.{arith}
+use lib.Dec.{T, eqb}
+use Rattle.lists.specs.Lists.{empty, one-of, InOrder, no-key}
+use Rattle.lists.proofs.Each.{each-of-all}
+use Rattle.lists.proofs.Stands.{each-member, stands-nowhere}
+use Rattle.rows.specs.Program as Program
+use Rattle.rows.specs.Program.{run, step-of}
+use Rattle.model.specs.Rows.{task, message, same-key, MessageRow, no-task, nothing as no-rows, Model}
+use Rattle.model.specs.Sizes.{priority-limit}
+use Rattle.model.specs.Calls.{Call, view-of}
+use Rattle.model.specs.Waits.{Wait, NoWait, Sending, Receiving, AtMailbox}
+use Rattle.model.specs.Errors.{refused}
+use Rattle.model.specs.Tasks.{tick}
+use Rattle.model.specs.Step.{call, step, program}
+use Rattle.model.specs.Isolation.{WaitsAt, QueuedAt}
+use Rattle.model.specs.WellFormed.{WaitQueue, senders-of, receivers-of, waiters-of, standing-in, by-priority, wait-queue, named-mailbox, WellFormedRows, WellFormed, KeptWellFormed, EmptyWellFormed, WellFormedLinked}
+use Rattle.model.proofs.Choices.{cond-yes}
+use Rattle.model.proofs.Step.{step-call, run-refused, run-accepted}
+use Rattle.model.proofs.Accepted.{passes, accepted}
+use Rattle.model.proofs.WaitMoves.{object-of}
+use Rattle.model.proofs.KeptCalls.{Valid, kept-accepted}
+use Rattle.model.proofs.KeptTick.{kept-tick}
+
+-- ── Kept ──
+
+-- A call's program leaves well-formed rows.
+kept-program : (m : Model) (c : Call) → WellFormed m → WellFormedRows (m .environment .counter) (λ t. 1) (run same-key (program (m .environment) c) (m .rows) .state)
+kept-program m c w = go (refused true (view-of (m .rows) c) c) (λ r. r) (λ r. r)
+  where
+    go : (b : Bool) → (T b → T (refused true (view-of (m .rows) c) c)) → (T (not b) → T (not (refused true (view-of (m .rows) c) c)))
+        → WellFormedRows (m .environment .counter) (λ t. 1) (run same-key (program (m .environment) c) (m .rows) .state)
+    go true yes-case no-case = rw (run-refused (m .environment) c (m .rows) (yes-case tt)) (w .rows)
+    go false yes-case no-case = let ok = no-case tt in
+        rw (run-accepted (m .environment) c (m .rows) ok)
+        (kept-accepted (m .environment) c (w .counter-in-range) (w .rows) (accepted Valid (view-of (m .rows) c) c (each-of-all (λ k t. t) _) ok) (passes (view-of (m .rows) c) c ok) .holds)
+
+-- Number 0 is the tick.
+step-tick : (m : Model) (c : Call) → T (eqb (c .number) 0) → step m c ≡ tick m
+unfolding step
+step-tick m c t = cond-yes (eqb (c .number) 0) (tick m) (call m c) t
+
+pub kept-well-formed : KeptWellFormed
+unfolding step-of
+kept-well-formed m c w = go (eqb (c .number) 0) (λ t. t) (λ t. t)
+  where
+    go : (b : Bool) → (T b → T (eqb (c .number) 0)) → (T (not b) → T (not (eqb (c .number) 0))) → WellFormed (step m c .state)
+    go true tick-case call-case = rw (step-tick m c (tick-case tt)) (kept-tick m w)
+    go false tick-case call-case = rw (step-call m c (call-case tt)) (record { counter-in-range = w .counter-in-range; rows = kept-program m c w })
+
+-- ── The empty model ──
+
+pub empty-well-formed : EmptyWellFormed
+unfolding empty one-of
+empty-well-formed counter inside = record {
+  counter-in-range = inside;
+  rows = record {
+    in-range = λ k n. refl;
+    tasks = λ t. record { undefined = λ n. refl; priority-in-range = λ d. absurd d; object-in-range = tt; code = tt; end = tt };
+    suspensions = λ t s. absurd s;
+    queues = λ q. record {
+      undefined = λ n. (refl, refl, refl);
+      attribute-in-range = omega arith;
+      capacity-in-range = omega arith;
+      count = omega arith;
+      senders = λ s. absurd s;
+      receivers = λ r. absurd r;
+    };
+    mailboxes = λ b. record { undefined = λ n. (refl, refl); attribute-in-range = omega arith; highest-in-range = λ p. absurd p; waiters = λ s. absurd s };
+    waiting = stands-nowhere no-task-waits (λ t. refl);
+    waiting-in-order = in-order;
+    queued = stands-nowhere (λ b. refl) (λ g. refl);
+    queued-in-order = λ b p. no-key;
+  };
+}
+  where
+    no-task-waits : (d : WaitQueue) → standing-in no-rows d ≡ []
+    no-task-waits (senders-of q) = refl
+    no-task-waits (receivers-of q) = refl
+    no-task-waits (waiters-of b) = refl
+
+    in-order : (d : WaitQueue) → T (by-priority no-rows d) → InOrder 1 priority-limit (map (λ t. no-task .priority) (standing-in no-rows d))
+    in-order (senders-of q) p = no-key
+    in-order (receivers-of q) p = no-key
+    in-order (waiters-of b) p = no-key
+
+-- ── Linked ──
+
+waits-at : (x : Wait) (c : WaitQueue) → wait-queue x ≡ some c → WaitsAt (object-of c) x
+waits-at NoWait c e = absurd (Option·none-ne-some c e)
+waits-at (Sending q end word) c e = ap object-of (Option·some-injective (senders-of q) c e)
+waits-at (Receiving q end) c e = ap object-of (Option·some-injective (receivers-of q) c e)
+waits-at (AtMailbox b end) c e = ap object-of (Option·some-injective (waiters-of b) c e)
+
+queued-at : (x : MessageRow) (b : ℕ) → named-mailbox x ≡ some b → QueuedAt b x
+queued-at x b = go (eqb (x .queued-in) 0) (λ n. n)
+  where
+    go : (k : Bool) → (T (not k) → T (not (eqb (x .queued-in) 0))) → cond k none (some (x .queued-in)) ≡ some b → QueuedAt b x
+    go true h e = absurd (Option·none-ne-some b e)
+    go false h e = let here = Option·some-injective (x .queued-in) b e in record { queued-here = here; a-mailbox = subst (λ n. T (not (eqb n 0))) here (h tt) }
+
+pub well-formed-linked : WellFormedLinked
+well-formed-linked m w = record {
+  senders = λ q. each-member _ (λ t i. waits-at (m .rows (task t) .wait) (senders-of q) (w .rows .waiting .no-other t (senders-of q) i));
+  receivers = λ q. each-member _ (λ t i. waits-at (m .rows (task t) .wait) (receivers-of q) (w .rows .waiting .no-other t (receivers-of q) i));
+  waiters = λ b. each-member _ (λ t i. waits-at (m .rows (task t) .wait) (waiters-of b) (w .rows .waiting .no-other t (waiters-of b) i));
+  messages = λ b. each-member _ (λ g i. queued-at (m .rows (message g)) b (w .rows .queued .no-other g b i));
+}
