@@ -1,4 +1,4 @@
--- A mailbox's test says what `MailboxSound` says: waiters and messages as lists are read off the heads of their chains, and each attribute from 0 to 3 is looked at.
+-- A mailbox's test says what `MailboxSound` says: a list is empty exactly where its chain's first number is 0, and the attributes 0 to 3 are four cases.
 use mathlib.Core.Path.{_≡_, refl, sym, _∙_}
 use mathlib.Core.Bool.{Bool, true, false, cond, _&&_, _||_}
 use mathlib.Core.List.{List, [], headD}

@@ -1,4 +1,4 @@
--- A data queue's test says what `QueueSound` says: those that wait as lists are read off the heads of their chains.
+-- A data queue's test says what `QueueSound` says: a wait queue is empty exactly where its chain's first number is 0.
 use mathlib.Core.Path.{_≡_, sym, _∙_}
 use mathlib.Core.Bool.{Bool, true, false, not, _&&_}
 use mathlib.Core.List.{List, [], headD}
