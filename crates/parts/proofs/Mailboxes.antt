@@ -60,10 +60,10 @@ numbers-sound attribute highest range h = record { attribute-in-range = range; h
     go false e f = inl (leb-false 2 attribute (sym (messages-go-by-priority attribute range) ∙ e))
 
 module _ {link key message-link message-key : List ℕ} {number : ℕ} (a : MailboxTestable number link key message-link message-key) where
-  pub waiters-chain : HasChain task-limit task-chains (32 + number) link
+  waiters-chain : HasChain task-limit task-chains (32 + number) link
   waiters-chain = record { sound = a .tasks-table; low = omega arith; high = let h = a .high in omega arith }
 
-  pub messages-chain : HasChain message-limit message-chains number message-link
+  messages-chain : HasChain message-limit message-chains number message-link
   messages-chain = record { sound = a .messages-table; low = a .low; high = a .high }
 
 module _ (x : Mailbox) {link key message-link message-key : List ℕ} {number : ℕ} (a : MailboxTestable number link key message-link message-key) {waiter message : ℕ}

@@ -43,10 +43,10 @@ module _ (ring : Ring) {sender receiver : ℕ} {senders receivers : List ℕ} (f
   }
 
 module _ {link key : List ℕ} {q : ℕ} (a : QueueTestable q link key) where
-  pub senders-chain : HasChain task-limit task-chains q link
+  senders-chain : HasChain task-limit task-chains q link
   senders-chain = record { sound = a .table; low = a .low; high = let h = a .high in omega arith }
 
-  pub receivers-chain : HasChain task-limit task-chains (16 + q) link
+  receivers-chain : HasChain task-limit task-chains (16 + q) link
   receivers-chain = record { sound = a .table; low = omega arith; high = let h = a .high in omega arith }
 
 module _ (x : Queue) {link key : List ℕ} {q : ℕ} (a : QueueTestable q link key) {sender receiver : ℕ}
