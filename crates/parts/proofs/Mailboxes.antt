@@ -1,4 +1,4 @@
--- A mailbox's test says what `MailboxSound` says: waiters and messages as lists are read off the heads of their chains, and each attribute from 0 to 3 is looked at.
+-- A mailbox's test says what `MailboxSound` says: a list is empty exactly where its chain's first number is 0, and the attributes 0 to 3 are four cases.
 use mathlib.Core.Path.{_≡_, refl, sym, _∙_}
 use mathlib.Core.Bool.{Bool, true, false, cond, _&&_, _||_}
 use mathlib.Core.List.{List, [], headD}
@@ -60,10 +60,10 @@ numbers-sound attribute highest range h = record { attribute-in-range = range; h
     go false e f = inl (leb-false 2 attribute (sym (messages-go-by-priority attribute range) ∙ e))
 
 module _ {link key message-link message-key : List ℕ} {number : ℕ} (a : MailboxTestable number link key message-link message-key) where
-  pub waiters-chain : HasChain task-limit task-chains (32 + number) link
+  waiters-chain : HasChain task-limit task-chains (32 + number) link
   waiters-chain = record { sound = a .tasks-table; low = omega arith; high = let h = a .high in omega arith }
 
-  pub messages-chain : HasChain message-limit message-chains number message-link
+  messages-chain : HasChain message-limit message-chains number message-link
   messages-chain = record { sound = a .messages-table; low = a .low; high = a .high }
 
 module _ (x : Mailbox) {link key message-link message-key : List ℕ} {number : ℕ} (a : MailboxTestable number link key message-link message-key) {waiter message : ℕ}

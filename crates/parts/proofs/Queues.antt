@@ -1,4 +1,4 @@
--- A data queue's test says what `QueueSound` says: those that wait as lists are read off the heads of their chains.
+-- A data queue's test says what `QueueSound` says: a wait queue is empty exactly where its chain's first number is 0.
 use mathlib.Core.Path.{_≡_, sym, _∙_}
 use mathlib.Core.Bool.{Bool, true, false, not, _&&_}
 use mathlib.Core.List.{List, [], headD}
@@ -43,10 +43,10 @@ module _ (ring : Ring) {sender receiver : ℕ} {senders receivers : List ℕ} (f
   }
 
 module _ {link key : List ℕ} {q : ℕ} (a : QueueTestable q link key) where
-  pub senders-chain : HasChain task-limit task-chains q link
+  senders-chain : HasChain task-limit task-chains q link
   senders-chain = record { sound = a .table; low = a .low; high = let h = a .high in omega arith }
 
-  pub receivers-chain : HasChain task-limit task-chains (16 + q) link
+  receivers-chain : HasChain task-limit task-chains (16 + q) link
   receivers-chain = record { sound = a .table; low = omega arith; high = let h = a .high in omega arith }
 
 module _ (x : Queue) {link key : List ℕ} {q : ℕ} (a : QueueTestable q link key) {sender receiver : ℕ}

@@ -1,11 +1,11 @@
 -- What the tests of a task's parts say: by the cases of a wait, and by the wrapping difference of two ticks.
 use mathlib.Core.Path.{_≡_, sym, ap, _∙_, subst}
-use mathlib.Core.Bool.{Bool, true, false, true≢false, _&&_}
+use mathlib.Core.Bool.{Bool, true, false, true≢false}
 use Prim.Native.Nat.{ℕ, _+_, _%_, _^_, _<_, _≤_}
 use native.Mathlib.Omega.{arith}
-use lib.Dec.{T, leb, eqb}
+use lib.Dec.{T}
 use Rattle.lists.specs.Tests.{Whether, holds, fails}
-use Rattle.lists.proofs.Tests.{is-map, is-and, is-leb, is-eqb, passed-test, passes-test}
+use Rattle.lists.proofs.Tests.{is-map, is-and, is-leb, passed-test, passes-test}
 use Rattle.model.specs.Sizes.{priority-limit, tmout-limit, counter-span, within}
 use Rattle.model.specs.declared.End.{End}
 use Rattle.model.specs.declared.End.the-variants.{Never, At}
@@ -23,15 +23,16 @@ pub never-ends : (counter : ℕ) {end : End} → end ≡ Never → Whether (EndA
 never-ends counter e = subst (λ (v : End). Whether (EndAhead counter 1 v) true) (sym e) (holds tt)
 
 -- The wrapping difference is the number of ticks left.
-pub ends-at : {counter tick left : ℕ} {end : End} → end ≡ At tick → counter < counter-span → left < counter-span → (left + counter) % 2 ^ 32 ≡ tick
-    → Whether (EndAhead counter 1 end) (leb 1 left && leb left tmout-limit)
-ends-at {counter} {tick} {left} e f g h =
-    let t : ticks-left counter tick ≡ left = omega arith in
-    subst (λ (v : End). Whether (EndAhead counter 1 v) (leb 1 left && leb left tmout-limit)) (sym e)
+pub ends-at : {counter tick left : ℕ} {end : End} {b : Bool} → end ≡ At tick → counter < counter-span → left < counter-span → (left + counter) % 2 ^ 32 ≡ tick
+    → Whether ((1 ≤ left) × (left ≤ tmout-limit)) b → Whether (EndAhead counter 1 end) b
+ends-at {counter} {tick} {left} {b = b} e f g h i =
+    let left-is : ticks-left counter tick ≡ left = omega arith in
+    let within-span : tick < counter-span = omega arith in
+    subst (λ (v : End). Whether (EndAhead counter 1 v) b) (sym e)
     (is-map
-    (λ p. record { in-range = omega arith; not-sooner = rw t (p .0); not-later = rw t (p .1) })
-    (λ a. (rw t at (a .not-sooner), rw t at (a .not-later)))
-    (is-and (is-leb 1 left) (is-leb left tmout-limit)))
+    (λ p. record { in-range = within-span; not-sooner = rw left-is (p .0); not-later = rw left-is (p .1) })
+    (λ a. (rw left-is at (a .not-sooner), rw left-is at (a .not-later)))
+    i)
 
 -- ── Waits ──
 
@@ -47,10 +48,10 @@ waits-at {counter} {standing} {w} {b} v before number e chain-is range i =
     i)
 
 -- Without a wait the task stands in no chain.
-pub waits-not : {counter standing : ℕ} {w : Wait} → w ≡ NoWait → Whether (WaitSound counter standing w) (eqb standing 0)
-waits-not {counter} {standing} e =
-    subst (λ (u : Wait). Whether (WaitSound counter standing u) (eqb standing 0)) (sym e)
-    (is-map (λ z. record { stands = sym z; object-in-range = tt; end = tt }) (λ s. sym (s .stands)) (is-eqb standing 0))
+pub waits-not : {counter standing : ℕ} {w : Wait} {b : Bool} → w ≡ NoWait → Whether (standing ≡ 0) b → Whether (WaitSound counter standing w) b
+waits-not {counter} {standing} {b = b} e i =
+    subst (λ (u : Wait). Whether (WaitSound counter standing u) b) (sym e)
+    (is-map (λ z. record { stands = sym z; object-in-range = tt; end = tt }) (λ s. sym (s .stands)) i)
 
 pub not-waiting : {w v : Wait} → w ≡ v → able v ≡ false → Whether (w ≡ NoWait) false
 not-waiting e f = fails (λ g. true≢false (sym (ap able g) ∙ ap able e ∙ f))

@@ -1,6 +1,7 @@
 -- `end_sound` is exact: the difference of the ticks, which wraps, is how many ticks are left.
 use native.Mathlib.Omega.{arith}
 use borrow.Author.Needs.{needs}
+use Rattle.lists.proofs.Tests.{is-and, is-leb}
 use Rattle.parts.proofs.Tasks.{never-ends, ends-at}
 use Rattle.parts.proofs.end_sound.Statement.{statement}
 use Rattle.parts.proofs.end_sound.Tie as tie
@@ -21,7 +22,7 @@ returns-2 : tie.Need-returns-2
 returns-2 c =
     let f = c .before .before .before .before .fits .counter in
     let g = c .wrapping-sub-u32 in
-    ends-at (c .before .before .end .given .1) (omega arith) (omega arith) (c .wrapping-sub-u32 .ensures)
+    ends-at (c .before .before .end .given .1) (omega arith) (omega arith) (c .wrapping-sub-u32 .ensures) (is-and (is-leb _ _) (is-leb _ _))
 
 pub end-sound-spec : {M : Type 1} → statement M
 end-sound-spec =

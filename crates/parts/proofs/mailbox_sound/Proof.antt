@@ -1,7 +1,7 @@
 -- `mailbox_sound` is exact: its tests are, and they say what `MailboxSound` says of a defined mailbox, and of an undefined one.
 use borrow.Author.Needs.{needs}
 use Rattle.lists.proofs.Tests.{is-and, is-or, is-eqb}
-use Rattle.parts.proofs.Mailboxes.{waiters-chain, defined-mailbox, undefined-mailbox}
+use Rattle.parts.proofs.Mailboxes.{defined-mailbox, undefined-mailbox}
 use Rattle.parts.proofs.mailbox_sound.Statement.{statement}
 use Rattle.parts.proofs.mailbox_sound.Tie as tie
 
@@ -21,9 +21,7 @@ add-in-order-if : tie.Need-add-in-order-if
 add-in-order-if c = search needs
 
 in-order-if-requires : tie.Need-in-order-if-requires
-in-order-if-requires c κs =
-    let testable = c .before .before .before .before .pre in
-    (waiters-chain testable, testable .keys-count)
+in-order-if-requires c κs = (search needs, c .before .before .before .before .pre .keys-count)
 
 in-order-if-requires-2 : tie.Need-in-order-if-requires-2
 in-order-if-requires-2 c κs = search needs

@@ -1,7 +1,7 @@
 -- `queue_sound` is exact: its tests are, and they say what `QueueSound` says of a defined queue, and of an undefined one.
 use borrow.Author.Needs.{needs}
 use Rattle.lists.proofs.Tests.{is-and, is-leb, is-eqb}
-use Rattle.parts.proofs.Queues.{senders-chain, defined-queue, undefined-queue}
+use Rattle.parts.proofs.Queues.{defined-queue, undefined-queue}
 use Rattle.parts.proofs.queue_sound.Statement.{statement}
 use Rattle.parts.proofs.queue_sound.Tie as tie
 
@@ -21,9 +21,7 @@ waits-sound-requires : tie.Need-waits-sound-requires
 waits-sound-requires c κs = search needs
 
 in-order-if-requires : tie.Need-in-order-if-requires
-in-order-if-requires c κs =
-    let testable = c .before .before .before .before .before .pre in
-    (senders-chain testable, testable .keys-count)
+in-order-if-requires c κs = (search needs, c .before .before .before .before .before .pre .keys-count)
 
 returns : tie.Need-returns
 returns c =

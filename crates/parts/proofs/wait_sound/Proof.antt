@@ -2,7 +2,7 @@
 use mathlib.Core.Path.{refl}
 use native.Mathlib.Omega.{arith}
 use borrow.Author.Needs.{needs}
-use Rattle.lists.proofs.Tests.{is-and}
+use Rattle.lists.proofs.Tests.{is-and, is-eqb}
 use Rattle.parts.proofs.Tasks.{waits-at, waits-not}
 use Rattle.parts.proofs.wait_sound.Statement.{statement}
 use Rattle.parts.proofs.wait_sound.Tie as tie
@@ -38,7 +38,7 @@ end-sound-requires-3 : tie.Need-end-sound-requires-3
 end-sound-requires-3 c κs = search needs
 
 returns : tie.Need-returns
-returns c = waits-not (c .enum-told .given .1)
+returns c = waits-not (c .enum-told .given .1) (is-eqb _ _)
 
 returns-2 : tie.Need-returns-2
 returns-2 c = waits-at _ 0 _ (c .before .before .before .wait .given .1) (omega arith) refl (is-and (c .before .names-chain .ensures) (c .end-sound .ensures))
