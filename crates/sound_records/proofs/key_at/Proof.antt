@@ -1,0 +1,50 @@
+-- `key_at` reads no byte beyond the record, since the index stays within the keys; the keys left get fewer.
+use Prim.Native.Nat.{_-_, _≤_}
+use borrow.Author.Needs.{needs}
+use Rattle.sound_records.proofs.key_at.Statement.{statement}
+use Rattle.sound_records.proofs.key_at.Tie as tie
+
+abbrev Inv-loop : tie.InvT-loop
+Inv-loop «record» at key₀ i₀ key i = i ≤ 65
+
+abbrev μ-loop : tie.MeasureT-loop
+μ-loop «record» at key₀ i₀ key i = 65 - i
+
+loop-holds : tie.Need-loop-holds Inv-loop μ-loop
+loop-holds c = search needs
+
+add-key : tie.Need-add-key Inv-loop μ-loop
+add-key c = search needs
+
+element-copy-out-key : tie.Need-element-copy-out-key Inv-loop μ-loop
+element-copy-out-key c = search needs
+
+array-write-key : tie.Need-array-write-key Inv-loop μ-loop
+array-write-key c = search needs
+
+add-i : tie.Need-add-i Inv-loop μ-loop
+add-i c = search needs
+
+loop-less : tie.Need-loop-less Inv-loop μ-loop
+loop-less c = search needs
+
+loop-again : tie.Need-loop-again Inv-loop μ-loop
+loop-again c = search needs
+
+returns : tie.Need-returns Inv-loop μ-loop
+returns c = search needs
+
+pub key-at-spec : {M : Type 1} → statement M
+key-at-spec =
+    tie.close
+    (tie.spec
+    Inv-loop
+    μ-loop
+    loop-holds
+    add-key
+    element-copy-out-key
+    array-write-key
+    add-i
+    loop-less
+    loop-again
+    returns)

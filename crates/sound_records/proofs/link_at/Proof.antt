@@ -1,0 +1,50 @@
+-- `link_at` reads no byte beyond the record, since the index stays within the cells; the cells left get fewer.
+use Prim.Native.Nat.{_-_, _≤_}
+use borrow.Author.Needs.{needs}
+use Rattle.sound_records.proofs.link_at.Statement.{statement}
+use Rattle.sound_records.proofs.link_at.Tie as tie
+
+abbrev Inv-loop : tie.InvT-loop
+Inv-loop «record» at link₀ i₀ link i = i ≤ 81
+
+abbrev μ-loop : tie.MeasureT-loop
+μ-loop «record» at link₀ i₀ link i = 81 - i
+
+loop-holds : tie.Need-loop-holds Inv-loop μ-loop
+loop-holds c = search needs
+
+add-link : tie.Need-add-link Inv-loop μ-loop
+add-link c = search needs
+
+element-copy-out-link : tie.Need-element-copy-out-link Inv-loop μ-loop
+element-copy-out-link c = search needs
+
+array-write-link : tie.Need-array-write-link Inv-loop μ-loop
+array-write-link c = search needs
+
+add-i : tie.Need-add-i Inv-loop μ-loop
+add-i c = search needs
+
+loop-less : tie.Need-loop-less Inv-loop μ-loop
+loop-less c = search needs
+
+loop-again : tie.Need-loop-again Inv-loop μ-loop
+loop-again c = search needs
+
+returns : tie.Need-returns Inv-loop μ-loop
+returns c = search needs
+
+pub link-at-spec : {M : Type 1} → statement M
+link-at-spec =
+    tie.close
+    (tie.spec
+    Inv-loop
+    μ-loop
+    loop-holds
+    add-link
+    element-copy-out-link
+    array-write-link
+    add-i
+    loop-less
+    loop-again
+    returns)
