@@ -1,15 +1,5 @@
-// Reads records of 1,156 bytes from standard input and prints for each whether the kernel's state that it describes is sound. The test is
-// run as often as the record says, so that it can be timed.
-//
-// A record, its numbers little-endian:
-//   0     how many times the test is run, u32; 0 counts as 1
-//   4     a label of at most 60 bytes, which a zero byte ends
-//   64    the counter, u32
-//   68    the tasks, cells 0 to 32, 20 bytes each
-//   728   the table of waiting tasks: 81 cells, then 65 keys
-//   874   the data queues, cells 0 to 16, 5 bytes each
-//   959   the mailboxes, cells 0 to 16, 3 bytes each
-//   1010  the table of queued messages: 81 cells, then 65 keys
+// Reads records from standard input until no whole one is left, and prints for each whether the kernel's state that it describes is sound.
+// A record also says how many times the test is run, so that the test can be timed.
 ghost use Prim.Native.Nat.{_+_, _<_, _≤_};
 use chain::CELLS;
 use chain::Chains;
@@ -26,11 +16,34 @@ use parts::Task;
 use ring::PLACES;
 use ring::Ring;
 
-const RECORD: usize = 1156;
+// A record's parts, each by the byte that it starts at. Numbers are little-endian.
 
+// How many times the test is run, a word; 0 counts as 1.
+const REPEAT: usize = 0;
+
+// Bytes up to the counter, or up to a zero byte.
 const LABEL: usize = 4;
 
-const LABEL_END: usize = 64;
+// A word.
+const COUNTER: usize = 64;
+
+// Cells 0 to 32, 20 bytes each.
+const TASKS: usize = 68;
+
+// The table of waiting tasks: its cells, then its keys.
+const WAITING: usize = 728;
+
+// Cells 0 to 16, 5 bytes each.
+const QUEUES: usize = 874;
+
+// Cells 0 to 16, 3 bytes each.
+const MAILBOXES: usize = 959;
+
+// The table of queued messages: its cells, then its keys.
+const MESSAGES: usize = 1010;
+
+// The bytes of a whole record.
+const RECORD: usize = 1156;
 
 // ── Numbers ──
 
@@ -64,29 +77,29 @@ fn word_at(record: &[u8; RECORD], at: usize) -> u32
 
 // ── Tasks ──
 
-// When a task's wait ends: a byte for the kind and, four bytes on, the tick.
+// When the wait of the task at this byte ends.
 fn end_at(record: &[u8; RECORD], at: usize) -> End
-    requires { ⌜ at + 8 ≤ 1156 ⌝ }
+    requires { ⌜ at + 20 ≤ 1156 ⌝ }
 {
-    if byte_at(record, at) == 0 {
+    if byte_at(record, at + 4) == 0 {
         return End::Never;
     }
-    let tick = word_at(record, at + 4);
+    let tick = word_at(record, at + 8);
     End::At(tick)
 }
 
-// What a task waits for: a byte for the kind, the object's number, the end, and ten bytes on the word that a sender holds.
+// What the task at this byte waits for.
 fn wait_at(record: &[u8; RECORD], at: usize) -> Wait
-    requires { ⌜ at + 14 ≤ 1156 ⌝ }
+    requires { ⌜ at + 20 ≤ 1156 ⌝ }
 {
-    let kind = byte_at(record, at);
-    let object = byte_at(record, at + 1);
-    let end = end_at(record, at + 2);
+    let kind = byte_at(record, at + 2);
+    let object = byte_at(record, at + 3);
+    let end = end_at(record, at);
     if kind == 0 {
         return Wait::NoWait;
     }
     if kind == 1 {
-        let word = word_at(record, at + 10);
+        let word = word_at(record, at + 12);
         return Wait::Sending {
             queue: object,
             end,
@@ -102,7 +115,7 @@ fn wait_at(record: &[u8; RECORD], at: usize) -> Wait
     }
 }
 
-// The code of this number, in the order of the enum.
+// The code of this number, in the order of the type.
 fn code_of(number: u8) -> Code {
     match number {
         0 => Code::Ok,
@@ -120,14 +133,14 @@ fn code_of(number: u8) -> Code {
     }
 }
 
-// A task: defined, suspended, the wait's kind, its object, the end's kind, the stored code, two bytes that nothing uses, then three words: the
-// end's tick, the word that a sender holds, the stored word.
+// A task's bytes are: defined, suspended, the wait's kind, its object, the end's kind, the stored code, and two that nothing uses. Then come
+// three words: the end's tick, the word that a sender holds, the stored word.
 fn task_at(record: &[u8; RECORD], at: usize) -> Task
     requires { ⌜ at + 20 ≤ 1156 ⌝ }
 {
     let defined = flag_at(record, at);
     let suspended = flag_at(record, at + 1);
-    let wait = wait_at(record, at + 2);
+    let wait = wait_at(record, at);
     let code = code_of(byte_at(record, at + 5));
     let word = word_at(record, at + 16);
     Task {
@@ -139,12 +152,13 @@ fn task_at(record: &[u8; RECORD], at: usize) -> Task
     }
 }
 
+// All tasks.
 fn tasks_of(record: &[u8; RECORD]) -> [Task; 33] {
-    let first = task_at(record, 68);
+    let first = task_at(record, TASKS);
     let mut tasks = [first; 33];
     let mut t: usize = 1;
     while t < 33 {
-        let task = task_at(record, 68 + 20 * t);
+        let task = task_at(record, TASKS + 20 * t);
         tasks[t] = task;
         t += 1;
     }
@@ -153,7 +167,7 @@ fn tasks_of(record: &[u8; RECORD]) -> [Task; 33] {
 
 // ── Objects ──
 
-// A data queue: defined, attribute, and its ring's head, count and capacity. The test reads none of the ring's words.
+// A data queue's bytes are: defined, attribute, and its ring's head, count and capacity. Soundness asks nothing of the ring's words.
 fn queue_at(record: &[u8; RECORD], at: usize) -> Queue
     requires { ⌜ at + 5 ≤ 1156 ⌝ }
 {
@@ -175,19 +189,20 @@ fn queue_at(record: &[u8; RECORD], at: usize) -> Queue
     }
 }
 
+// All data queues.
 fn queues_of(record: &[u8; RECORD]) -> [Queue; 17] {
-    let first = queue_at(record, 874);
+    let first = queue_at(record, QUEUES);
     let mut queues = [first; 17];
     let mut n: usize = 1;
     while n < 17 {
-        let queue = queue_at(record, 874 + 5 * n);
+        let queue = queue_at(record, QUEUES + 5 * n);
         queues[n] = queue;
         n += 1;
     }
     queues
 }
 
-// A mailbox: defined, attribute, highest message priority.
+// A mailbox's bytes are: defined, attribute, highest message priority.
 fn mailbox_at(record: &[u8; RECORD], at: usize) -> Mailbox
     requires { ⌜ at + 3 ≤ 1156 ⌝ }
 {
@@ -201,12 +216,13 @@ fn mailbox_at(record: &[u8; RECORD], at: usize) -> Mailbox
     }
 }
 
+// All mailboxes.
 fn mailboxes_of(record: &[u8; RECORD]) -> [Mailbox; 17] {
-    let first = mailbox_at(record, 959);
+    let first = mailbox_at(record, MAILBOXES);
     let mut mailboxes = [first; 17];
     let mut n: usize = 1;
     while n < 17 {
-        let mailbox = mailbox_at(record, 959 + 3 * n);
+        let mailbox = mailbox_at(record, MAILBOXES + 3 * n);
         mailboxes[n] = mailbox;
         n += 1;
     }
@@ -252,13 +268,14 @@ fn chains_at(record: &[u8; RECORD], at: usize) -> Chains
 
 // ── Records ──
 
+// The state that a record describes.
 fn state_of(record: &[u8; RECORD]) -> State {
-    let counter = word_at(record, 64);
+    let counter = word_at(record, COUNTER);
     let tasks = tasks_of(record);
-    let waiting = chains_at(record, 728);
+    let waiting = chains_at(record, WAITING);
     let queues = queues_of(record);
     let mailboxes = mailboxes_of(record);
-    let messages = chains_at(record, 1010);
+    let messages = chains_at(record, MESSAGES);
     State {
         counter,
         tasks,
@@ -269,28 +286,19 @@ fn state_of(record: &[u8; RECORD]) -> State {
     }
 }
 
-// Runs the test this many times. True where every answer was true.
-fn always_sound(state: State, runs: u32) -> bool {
-    let mut left = runs;
-    let mut answers: u32 = 0;
-    while 0 < left {
-        if state.sound() {
-            answers += 1;
-        }
+// Runs the test `repeat` times, or once where that is 0, and tells whether every answer was true. The test is called in two places because
+// the compiler would put a function that is called in one place into its caller, and a profile would no longer show it.
+fn always_sound(state: State, repeat: u32) -> bool {
+    let mut sound = state.sound();
+    let mut left = repeat;
+    while 1 < left {
+        sound = state.sound() & sound;
         left -= 1;
     }
-    answers == runs
+    sound
 }
 
-// How many times a record's test is run.
-fn runs_of(record: &[u8; RECORD]) -> u32 {
-    let runs = word_at(record, 0);
-    if runs == 0 {
-        return 1;
-    }
-    runs
-}
-
+// Writes a text to standard output.
 fn print(text: &[u8]) {
     io::write_all(STDOUT_FILENO, text);
 }
@@ -300,22 +308,24 @@ fn label_end(record: &[u8; RECORD]) -> usize
     ensures { λ r. ⌜ (4 ≤ r) × (r ≤ 64) ⌝ }
 {
     let mut end = LABEL;
-    while end < LABEL_END {
+    while end < COUNTER {
         if record[end] == 0 {
             return end;
         }
         end += 1;
     }
-    LABEL_END
+    COUNTER
 }
 
+// Prints a record's label.
 fn print_label(record: &[u8; RECORD]) {
     let start = LABEL;
     let end = label_end(record);
-    let text = &record[..];
-    print(&text[start..end]);
+    let bytes = &record[..];
+    print(&bytes[start..end]);
 }
 
+// Prints the answer, which ends the line.
 fn print_answer(sound: bool) {
     if sound {
         print(b": sound\n");
@@ -331,7 +341,7 @@ fn answer_record() -> bool {
         return false;
     }
     let state = state_of(&record);
-    let sound = always_sound(state, runs_of(&record));
+    let sound = always_sound(state, word_at(&record, REPEAT));
     print_label(&record);
     print_answer(sound);
     true
@@ -340,7 +350,7 @@ fn answer_record() -> bool {
 // A proved loop has to end, and nothing says that the input does. So the loop counts its turns down, from a number that no run uses up.
 fn main() {
     let mut turns = u64::MAX;
-    while turns > 0 && answer_record() {
+    while 0 < turns && answer_record() {
         turns -= 1;
     }
 }

@@ -1,25 +1,22 @@
--- `always_sound` counts at most one answer for each run, and the runs left get fewer.
-use Prim.Native.Nat.{_+_, _≤_}
-use native.Mathlib.Omega.{arith}
-use mathlib.Core.Logic.{⊎-elim}
+-- `always_sound` ends, since the runs left get fewer.
 use borrow.Author.Needs.{needs}
 use Rattle.sound_records.proofs.always_sound.Statement.{statement}
 use Rattle.sound_records.proofs.always_sound.Tie as tie
 
 abbrev Inv-loop : tie.InvT-loop
-Inv-loop state runs left₀ answers₀ left answers = answers + left ≤ runs
+Inv-loop state repeat sound₀ left₀ sound left = Unit {0}
 
 abbrev μ-loop : tie.MeasureT-loop
-μ-loop state runs left₀ answers₀ left answers = left
-
-loop-holds : tie.Need-loop-holds Inv-loop μ-loop
-loop-holds c = search needs
+μ-loop state repeat sound₀ left₀ sound left = left
 
 sound-requires : tie.Need-sound-requires Inv-loop μ-loop
 sound-requires c κs = search needs
 
-add-answers : tie.Need-add-answers Inv-loop μ-loop
-add-answers c = search needs
+loop-holds : tie.Need-loop-holds Inv-loop μ-loop
+loop-holds c = search needs
+
+sound-requires-2 : tie.Need-sound-requires-2 Inv-loop μ-loop
+sound-requires-2 c κs = search needs
 
 sub-left : tie.Need-sub-left Inv-loop μ-loop
 sub-left c = search needs
@@ -28,7 +25,7 @@ loop-less : tie.Need-loop-less Inv-loop μ-loop
 loop-less c = search needs
 
 loop-again : tie.Need-loop-again Inv-loop μ-loop
-loop-again c = ⊎-elim (λ w. omega arith) (λ w. omega arith) (c .if1 .came)
+loop-again c = search needs
 
 returns : tie.Need-returns Inv-loop μ-loop
 returns c = search needs
@@ -39,9 +36,9 @@ always-sound-spec =
     (tie.spec
     Inv-loop
     μ-loop
-    loop-holds
     sound-requires
-    add-answers
+    loop-holds
+    sound-requires-2
     sub-left
     loop-less
     loop-again

@@ -1,11 +1,11 @@
--- `key_at` reads no byte beyond the record, since the index stays within the keys; the keys left get fewer.
-use Prim.Native.Nat.{_-_, _≤_}
+-- `key_at` reads no byte beyond the record: the loop's test bounds the index. The keys left get fewer.
+use Prim.Native.Nat.{_-_}
 use borrow.Author.Needs.{needs}
 use Rattle.sound_records.proofs.key_at.Statement.{statement}
 use Rattle.sound_records.proofs.key_at.Tie as tie
 
 abbrev Inv-loop : tie.InvT-loop
-Inv-loop «record» at key₀ i₀ key i = i ≤ 65
+Inv-loop «record» at key₀ i₀ key i = Unit {0}
 
 abbrev μ-loop : tie.MeasureT-loop
 μ-loop «record» at key₀ i₀ key i = 65 - i

@@ -1,11 +1,11 @@
--- `link_at` reads no byte beyond the record, since the index stays within the cells; the cells left get fewer.
-use Prim.Native.Nat.{_-_, _≤_}
+-- `link_at` reads no byte beyond the record: the loop's test bounds the index. The cells left get fewer.
+use Prim.Native.Nat.{_-_}
 use borrow.Author.Needs.{needs}
 use Rattle.sound_records.proofs.link_at.Statement.{statement}
 use Rattle.sound_records.proofs.link_at.Tie as tie
 
 abbrev Inv-loop : tie.InvT-loop
-Inv-loop «record» at link₀ i₀ link i = i ≤ 81
+Inv-loop «record» at link₀ i₀ link i = Unit {0}
 
 abbrev μ-loop : tie.MeasureT-loop
 μ-loop «record» at link₀ i₀ link i = 81 - i

@@ -1,11 +1,11 @@
--- `mailboxes_of` reads no byte beyond the record, since the mailbox's number stays within the cells; the cells left get fewer.
-use Prim.Native.Nat.{_-_, _≤_}
+-- `mailboxes_of` reads no byte beyond the record: the loop's test bounds the mailbox's number. The mailboxes left get fewer.
+use Prim.Native.Nat.{_-_}
 use borrow.Author.Needs.{needs}
 use Rattle.sound_records.proofs.mailboxes_of.Statement.{statement}
 use Rattle.sound_records.proofs.mailboxes_of.Tie as tie
 
 abbrev Inv-loop : tie.InvT-loop
-Inv-loop «record» mailboxes₀ n₀ mailboxes n = n ≤ 17
+Inv-loop «record» mailboxes₀ n₀ mailboxes n = Unit {0}
 
 abbrev μ-loop : tie.MeasureT-loop
 μ-loop «record» mailboxes₀ n₀ mailboxes n = 17 - n

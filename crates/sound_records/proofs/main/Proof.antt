@@ -1,4 +1,4 @@
--- `main` ends, since the turns left get fewer. Nothing else has to hold from turn to turn.
+-- `main` ends, since the turns left get fewer.
 use borrow.Author.Needs.{needs}
 use Rattle.sound_records.proofs.main.Statement.{statement}
 use Rattle.sound_records.proofs.main.Tie as tie

@@ -1,11 +1,11 @@
--- `queues_of` reads no byte beyond the record, since the queue's number stays within the cells; the cells left get fewer.
-use Prim.Native.Nat.{_-_, _≤_}
+-- `queues_of` reads no byte beyond the record: the loop's test bounds the queue's number. The queues left get fewer.
+use Prim.Native.Nat.{_-_}
 use borrow.Author.Needs.{needs}
 use Rattle.sound_records.proofs.queues_of.Statement.{statement}
 use Rattle.sound_records.proofs.queues_of.Tie as tie
 
 abbrev Inv-loop : tie.InvT-loop
-Inv-loop «record» queues₀ n₀ queues n = n ≤ 17
+Inv-loop «record» queues₀ n₀ queues n = Unit {0}
 
 abbrev μ-loop : tie.MeasureT-loop
 μ-loop «record» queues₀ n₀ queues n = 17 - n

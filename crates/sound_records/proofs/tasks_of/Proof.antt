@@ -1,11 +1,11 @@
--- `tasks_of` reads no byte beyond the record, since the task's number stays within the cells; the cells left get fewer.
-use Prim.Native.Nat.{_-_, _≤_}
+-- `tasks_of` reads no byte beyond the record: the loop's test bounds the task's number. The tasks left get fewer.
+use Prim.Native.Nat.{_-_}
 use borrow.Author.Needs.{needs}
 use Rattle.sound_records.proofs.tasks_of.Statement.{statement}
 use Rattle.sound_records.proofs.tasks_of.Tie as tie
 
 abbrev Inv-loop : tie.InvT-loop
-Inv-loop «record» tasks₀ t₀ tasks t = t ≤ 33
+Inv-loop «record» tasks₀ t₀ tasks t = Unit {0}
 
 abbrev μ-loop : tie.MeasureT-loop
 μ-loop «record» tasks₀ t₀ tasks t = 33 - t
