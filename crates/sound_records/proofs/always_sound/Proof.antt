@@ -10,13 +10,13 @@ abbrev μ-loop : tie.MeasureT-loop
 μ-loop state repeat sound₀ left₀ sound left = left
 
 sound-requires : tie.Need-sound-requires Inv-loop μ-loop
-sound-requires c κs = search needs
+sound-requires c κs = tt
 
 loop-holds : tie.Need-loop-holds Inv-loop μ-loop
-loop-holds c = search needs
+loop-holds c = tt
 
 sound-requires-2 : tie.Need-sound-requires-2 Inv-loop μ-loop
-sound-requires-2 c κs = search needs
+sound-requires-2 c κs = tt
 
 sub-left : tie.Need-sub-left Inv-loop μ-loop
 sub-left c = search needs
@@ -25,10 +25,10 @@ loop-less : tie.Need-loop-less Inv-loop μ-loop
 loop-less c = search needs
 
 loop-again : tie.Need-loop-again Inv-loop μ-loop
-loop-again c = search needs
+loop-again c = tt
 
 returns : tie.Need-returns Inv-loop μ-loop
-returns c = search needs
+returns c = tt
 
 pub always-sound-spec : {M : Type 1} → statement M
 always-sound-spec =

@@ -14,7 +14,7 @@ queue-at-requires : tie.Need-queue-at-requires Inv-loop μ-loop
 queue-at-requires c κs = search needs
 
 loop-holds : tie.Need-loop-holds Inv-loop μ-loop
-loop-holds c = search needs
+loop-holds c = tt
 
 mul-queue-at : tie.Need-mul-queue-at Inv-loop μ-loop
 mul-queue-at c = search needs
@@ -38,10 +38,10 @@ loop-less : tie.Need-loop-less Inv-loop μ-loop
 loop-less c = search needs
 
 loop-again : tie.Need-loop-again Inv-loop μ-loop
-loop-again c = search needs
+loop-again c = tt
 
 returns : tie.Need-returns Inv-loop μ-loop
-returns c = search needs
+returns c = tt
 
 pub queues-of-spec : {M : Type 1} → statement M
 queues-of-spec =
