@@ -6,9 +6,7 @@ use Prim.Native.Nat.{ℕ, zero, suc, _+_, _<_, _≤_}
 use native.Mathlib.Omega.{arith}
 use lib.Dec.{T}
 use lib.ListN.{getD, length, replicate, length-replicate, getD-replicate}
-use mathlib.Core.Option.{Option·none-ne-some}
 use Rattle.lists.specs.Lists.{one-of}
-use Rattle.lists.specs.Lists as lists
 use Rattle.lists.proofs.Reading.{all-same}
 use Rattle.chain.specs.Table.{lists, chain-of, key-cells}
 use Rattle.chain.specs.Changes.{New}
@@ -17,7 +15,8 @@ use Rattle.ring.specs.Ring.{stored, Empty}
 use Rattle.ring.specs.declared.Ring.{Ring}
 use Rattle.model.specs.Sizes.{task-limit, queue-limit, mailbox-limit, message-limit}
 use Rattle.model.specs.Rows.{Key, task, suspension, queue, mailbox, message, valid, Model, nothing, empty-state}
-use Rattle.model.specs.WellFormed.{WellFormed, WaitQueue, senders-of, receivers-of, waiters-of, standing-in, by-priority}
+use Rattle.model.specs.WellFormed.{WellFormed, WaitQueue, senders-of, receivers-of, waiters-of}
+use Rattle.model.proofs.WellFormed.{empty-well-formed}
 use Rattle.parts.specs.Chains.{task-chains, message-chains, chain-number, tasks-in, messages-in}
 use Rattle.parts.specs.Tasks.{task-row}
 use Rattle.parts.specs.Queues.{queue-row}
@@ -27,40 +26,7 @@ use Rattle.parts.specs.declared.Queue.{Queue}
 use Rattle.kernel.specs.declared.State.{State}
 use Rattle.kernel.specs.Meaning.{no-task-cell, no-mailbox-cell, task-at, queue-at, mailbox-at, mailbox-of, keeps-priorities, cells-of, abs}
 use Rattle.kernel.specs.Sound.{Sound}
-use Rattle.kernel.proofs.Parts.{no-task-well-formed, no-queue-well-formed, no-mailbox-well-formed}
-use Rattle.kernel.proofs.Rows.{within-range, cond-cases, cond-no}
-
-empty-well-formed : WellFormed (empty-state 0)
-unfolding one-of
-empty-well-formed = record {
-  counter-in-range = omega arith;
-  rows = record {
-    in-range = λ k n. refl;
-    tasks = λ t. no-task-well-formed 0;
-    suspensions = λ t h. absurd h;
-    queues = λ q. no-queue-well-formed;
-    mailboxes = λ x. no-mailbox-well-formed;
-    waiting = record { in-named = λ t k e. absurd (Option·none-ne-some k e); no-other = λ t k i. absurd (List·Memᴰ·not-nil (none-stands k i)); no-twice = λ k. once k };
-    waiting-in-order = λ k o. absurd (no-order k o);
-    queued = record { in-named = λ g x e. absurd (Option·none-ne-some x e); no-other = λ g x i. absurd (List·Memᴰ·not-nil i); no-twice = λ x. lists.nothing };
-    queued-in-order = λ x o. absurd o;
-  };
-}
-  where
-    none-stands : (k : WaitQueue) {t : ℕ} → In t (standing-in nothing k) → In t []
-    none-stands (senders-of q) i = i
-    none-stands (receivers-of q) i = i
-    none-stands (waiters-of x) i = i
-
-    once : (k : WaitQueue) → lists.Once (standing-in nothing k)
-    once (senders-of q) = lists.nothing
-    once (receivers-of q) = lists.nothing
-    once (waiters-of x) = lists.nothing
-
-    no-order : (k : WaitQueue) → T (by-priority nothing k) → ⊥
-    no-order (senders-of q) o = o
-    no-order (receivers-of q) o = o
-    no-order (waiters-of x) o = o
+use Rattle.kernel.proofs.Rows.{within-range, cond-cases}
 
 -- A data queue that isn't defined, with this ring.
 abbrev pub undefined-queue : Ring → Queue
@@ -117,5 +83,5 @@ module _ (s : State) (r : Ring) (empty : Empty 0 r) (b : Blank r s) where
     waiting = b .waiting .sound task-limit task-chains (omega arith) (omega arith);
     messages = b .messages .sound message-limit message-chains (omega arith) (omega arith);
     rings = λ q v d. rw (no-queue q v) (empty .kept .in-range);
-    well-formed = subst WellFormed (sym blank-means) empty-well-formed;
+    well-formed = subst WellFormed (sym blank-means) (empty-well-formed 0 (omega arith));
   }

@@ -13,9 +13,10 @@ use Rattle.chain.proofs.Table.{length-lists, list-none}
 use Rattle.ring.specs.Ring.{stored}
 use Rattle.model.specs.Sizes.{mailbox-limit, message-limit}
 use Rattle.model.specs.Rows.{Key, task, suspension, queue, mailbox, message, valid, Row, TaskRow, QueueRow, MailboxRow, MessageRow, Model, messages-by-priority, nothing}
-use Rattle.model.specs.WellFormed.{WaitQueue, senders-of, receivers-of, waiters-of}
+use Rattle.model.specs.WellFormed.{WaitQueue, object-of, senders-of, receivers-of, waiters-of}
 use Rattle.model.specs.declared.Wait.the-variants.{NoWait}
-use Rattle.parts.specs.Chains.{object, message-chains, tasks-in, messages-in}
+use Rattle.model.proofs.Choices.{cond-no, cond-yes}
+use Rattle.parts.specs.Chains.{message-chains, tasks-in, messages-in}
 use Rattle.parts.specs.Tasks.{task-row}
 use Rattle.parts.specs.Queues.{queue-row}
 use Rattle.parts.specs.Mailboxes.{kept-attribute, mailbox-row}
@@ -26,7 +27,7 @@ use Rattle.kernel.specs.declared.State.{State}
 use Rattle.kernel.specs.Meaning.{task-at, queue-at, mailbox-at, mailbox-of, keeps-priorities, cells-of, abs}
 use Rattle.kernel.specs.Sound.{Sound}
 use Rattle.kernel.specs.Equal.{SameTask, SameQueue, SameMailbox, SameState, EqualStates}
-use Rattle.kernel.proofs.Rows.{passes-or-not, cond-yes, cond-no, in-range, row-is}
+use Rattle.kernel.proofs.Rows.{passes-or-not, in-range, row-is}
 use Rattle.kernel.proofs.Standing.{message-lists}
 use Rattle.kernel.proofs.Parts.{Parts, sound-parts}
 
@@ -161,7 +162,7 @@ module _ (s u : State) (e : abs s ≡ abs u) where
             (subst (λ n. T (messages-by-priority n)) (sym (cond-yes (mailbox-at s b .defined) _ 0 t)) o);
       }
 
-  means-wait-queue : (k : WaitQueue) → T (valid (object k)) → tasks-in (s .waiting .link) k ≡ tasks-in (u .waiting .link) k
+  means-wait-queue : (k : WaitQueue) → T (valid (object-of k)) → tasks-in (s .waiting .link) k ≡ tasks-in (u .waiting .link) k
   means-wait-queue (senders-of q) v = ap (λ (x : QueueRow). x .senders) (cells (queue q) v)
   means-wait-queue (receivers-of q) v = ap (λ (x : QueueRow). x .receivers) (cells (queue q) v)
   means-wait-queue (waiters-of b) v = ap (λ (x : MailboxRow). x .waiters) (cells (mailbox b) v)

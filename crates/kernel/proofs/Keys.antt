@@ -11,13 +11,14 @@ use Rattle.lists.proofs.Members.{map-same}
 use Rattle.chain.specs.Table.{keys-of, Sound}
 use Rattle.model.specs.Sizes.{task-limit, message-limit}
 use Rattle.model.specs.Rows.{task, mailbox, message, valid, TaskRow, MessageRow, messages-by-priority}
-use Rattle.model.specs.WellFormed.{WaitQueue, standing-in, wait-queue, TaskWellFormed}
-use Rattle.parts.specs.Chains.{object, task-chains, message-chains, tasks-in, messages-in}
+use Rattle.model.specs.WellFormed.{WaitQueue, object-of, standing-in, wait-queue, TaskWellFormed}
+use Rattle.model.proofs.Choices.{cond-yes}
+use Rattle.parts.specs.Chains.{task-chains, message-chains, tasks-in, messages-in}
 use Rattle.parts.specs.Tasks.{task-row}
 use Rattle.parts.specs.Mailboxes.{kept-attribute}
 use Rattle.kernel.specs.declared.State.{State}
 use Rattle.kernel.specs.Meaning.{task-at, mailbox-at, mailbox-of, keeps-priorities, abs}
-use Rattle.kernel.proofs.Rows.{passes-or-not, cond-yes, row-is}
+use Rattle.kernel.proofs.Rows.{passes-or-not, row-is}
 use Rattle.kernel.proofs.Standing.{standing-is, messages-are, in-chain, in-mailbox}
 
 -- Whoever waits is defined.
@@ -29,7 +30,7 @@ waits-defined s t k v r w =
 
 module _ (s : State) (H : Sound task-limit task-chains (s .waiting .link)) (tasks : (t : ℕ) → TaskWellFormed (s .counter) 1 (abs s .rows (task t)))
     (waiting : StandsWhereNamed (standing-in (abs s .rows)) (λ t. wait-queue (abs s .rows (task t) .wait))) where
-  pub priorities-are : (k : WaitQueue) → T (valid (object k)) → map (λ t. abs s .rows (task t) .priority) (standing-in (abs s .rows) k) ≡ keys-of (s .waiting .key) (tasks-in (s .waiting .link) k)
+  pub priorities-are : (k : WaitQueue) → T (valid (object-of k)) → map (λ t. abs s .rows (task t) .priority) (standing-in (abs s .rows) k) ≡ keys-of (s .waiting .key) (tasks-in (s .waiting .link) k)
   unfolding keys-of
   priorities-are k v = map-same (λ t. abs s .rows (task t) .priority) (λ t. getD (s .waiting .key) t 0) (standing-in (abs s .rows) k) same ∙ ap (map (λ t. getD (s .waiting .key) t 0)) (standing-is s k v)
     where

@@ -10,16 +10,18 @@ use Rattle.lists.specs.Lists.{one-of, InOrder, StandsWhereNamed}
 use Rattle.chain.specs.Table.{chain-of, keys-of}
 use Rattle.chain.specs.Table as chain
 use Rattle.model.specs.Sizes.{task-limit, message-limit, priority-limit, counter-span}
-use Rattle.model.specs.Rows.{Key, task, suspension, queue, mailbox, message, valid, TaskRow, QueueRow, MailboxRow, messages-by-priority, waiters-by-priority, senders-by-priority, nothing, no-task, no-queue, no-mailbox}
-use Rattle.model.specs.WellFormed.{WaitQueue, senders-of, receivers-of, waiters-of, standing-in, by-priority, wait-queue, TaskWellFormed, QueueWellFormed, MailboxWellFormed, WellFormedRows, WellFormed}
-use Rattle.parts.specs.Chains.{object, task-chains, message-chains, tasks-in, messages-in}
+use Rattle.model.specs.Rows.{Key, task, suspension, queue, mailbox, message, valid, TaskRow, QueueRow, MailboxRow, messages-by-priority, waiters-by-priority, senders-by-priority, nothing}
+use Rattle.model.specs.WellFormed.{WaitQueue, object-of, senders-of, receivers-of, waiters-of, standing-in, by-priority, wait-queue, TaskWellFormed, QueueWellFormed, MailboxWellFormed, WellFormedRows, WellFormed}
+use Rattle.model.proofs.Choices.{cond-yes}
+use Rattle.model.proofs.WellFormed.{empty-well-formed}
+use Rattle.parts.specs.Chains.{task-chains, message-chains, tasks-in, messages-in}
 use Rattle.parts.specs.Tasks.{TaskSound, WaitSound}
 use Rattle.parts.specs.Queues.{QueueSound}
 use Rattle.parts.specs.Mailboxes.{kept-attribute, MailboxSound}
 use Rattle.kernel.specs.declared.State.{State}
 use Rattle.kernel.specs.Meaning.{task-at, queue-at, mailbox-at, abs}
 use Rattle.kernel.specs.Sound.{Sizes, Sound}
-use Rattle.kernel.proofs.Rows.{passes-or-not, cond-yes, row-is, row-cases}
+use Rattle.kernel.proofs.Rows.{passes-or-not, row-is, row-cases}
 use Rattle.kernel.proofs.Standing.{task-lists, standing-is, messages-are, waiting-from, stands-from, queued-from}
 use Rattle.kernel.proofs.Keys.{priorities-are, kept-priorities-are}
 
@@ -42,18 +44,6 @@ pub record Parts (s : State) : Type 0 where
   pub queues : (q : ℕ) → T (valid (queue q)) → QueueAt s q
   pub mailboxes : (b : ℕ) → T (valid (mailbox b)) → MailboxAt s b
 
--- ── What is undefined is well-formed ──
-
-pub no-task-well-formed : (counter : ℕ) → TaskWellFormed counter 1 no-task
-no-task-well-formed counter = record { undefined = λ n. refl; priority-in-range = λ d. absurd d; object-in-range = tt; code = tt; end = tt }
-
-pub no-queue-well-formed : QueueWellFormed no-queue
-no-queue-well-formed = record { undefined = λ n. (refl, refl, refl); attribute-in-range = omega arith; capacity-in-range = omega arith; count = omega arith; senders = λ h. (refl, refl); receivers = λ h. (refl, refl) }
-
-pub no-mailbox-well-formed : MailboxWellFormed no-mailbox
-unfolding one-of
-no-mailbox-well-formed = record { undefined = λ n. (refl, refl); attribute-in-range = omega arith; highest-in-range = λ h. absurd h; waiters = λ h. refl }
-
 -- A mailbox by priority keeps its highest priority.
 highest-is : (s : State) (b : ℕ) → T (valid (mailbox b)) → T (messages-by-priority (kept-attribute (mailbox-at s b))) → abs s .rows (mailbox b) .highest ≡ mailbox-at s b .highest
 highest-is s b v o = ap (λ (x : MailboxRow). x .highest) (row-is s (mailbox b) v) ∙ cond-yes (messages-by-priority (kept-attribute (mailbox-at s b))) _ _ o
@@ -61,8 +51,12 @@ highest-is s b v o = ap (λ (x : MailboxRow). x .highest) (row-is s (mailbox b) 
 -- ── From the parts ──
 
 module _ (s : State) (p : Parts s) where
+  -- What is undefined is well-formed, as in the empty state.
+  undefined : WellFormedRows (s .counter) (λ t. 1) nothing
+  undefined = empty-well-formed (s .counter) (p .counter) .rows
+
   rows-tasks : (t : ℕ) → TaskWellFormed (s .counter) 1 (abs s .rows (task t))
-  rows-tasks t = row-cases s (task t) (λ x. TaskWellFormed (s .counter) 1 x) (λ v. p .tasks t v .row) (λ n. no-task-well-formed (s .counter))
+  rows-tasks t = row-cases s (task t) (λ x. TaskWellFormed (s .counter) 1 x) (λ v. p .tasks t v .row) (λ n. undefined .tasks t)
 
   waits : (t : ℕ) → T (valid (task t)) → WaitSound (s .counter) (chain-of t (task-lists s)) (task-at s t .wait)
   waits t v = record { stands = p .tasks t v .stands; object-in-range = p .tasks t v .row .object-in-range; end = p .tasks t v .row .end }
@@ -70,7 +64,7 @@ module _ (s : State) (p : Parts s) where
   stand : StandsWhereNamed (standing-in (abs s .rows)) (λ t. wait-queue (abs s .rows (task t) .wait))
   stand = waiting-from s (p .waiting) waits
 
-  in-queue-order : (k : WaitQueue) → T (valid (object k)) → InOrder 1 priority-limit (keys-of (s .waiting .key) (tasks-in (s .waiting .link) k))
+  in-queue-order : (k : WaitQueue) → T (valid (object-of k)) → InOrder 1 priority-limit (keys-of (s .waiting .key) (tasks-in (s .waiting .link) k))
       → InOrder 1 priority-limit (map (λ t. abs s .rows (task t) .priority) (standing-in (abs s .rows) k))
   in-queue-order k v o = subst (λ l. InOrder 1 priority-limit l) (sym (priorities-are s (p .waiting) rows-tasks stand k v)) o
 
@@ -109,8 +103,8 @@ module _ (s : State) (p : Parts s) where
         in-range = λ k. row-cases s k (λ x. T (not (valid k)) → x ≡ nothing k) (λ v n. absurd (T-not (valid k) n v)) (λ n m. refl);
         tasks = rows-tasks;
         suspensions = suspended-defined;
-        queues = λ q. row-cases s (queue q) QueueWellFormed (λ v. p .queues q v .row) (λ n. no-queue-well-formed);
-        mailboxes = λ b. row-cases s (mailbox b) MailboxWellFormed (λ v. p .mailboxes b v .row) (λ n. no-mailbox-well-formed);
+        queues = λ q. row-cases s (queue q) QueueWellFormed (λ v. p .queues q v .row) (λ n. undefined .queues q);
+        mailboxes = λ b. row-cases s (mailbox b) MailboxWellFormed (λ v. p .mailboxes b v .row) (λ n. undefined .mailboxes b);
         waiting = stand;
         waiting-in-order = waiting-ordered;
         queued = queued-from s (p .messages);
@@ -133,7 +127,7 @@ module _ (s : State) (S : Sound s) where
     row = subst (λ x. TaskWellFormed (s .counter) 1 x) (row-is s (task t) v) (wf .tasks t);
   }
 
-  keys-ordered : (k : WaitQueue) → T (valid (object k)) → T (by-priority (abs s .rows) k) → InOrder 1 priority-limit (keys-of (s .waiting .key) (tasks-in (s .waiting .link) k))
+  keys-ordered : (k : WaitQueue) → T (valid (object-of k)) → T (by-priority (abs s .rows) k) → InOrder 1 priority-limit (keys-of (s .waiting .key) (tasks-in (s .waiting .link) k))
   keys-ordered k v o = subst (λ l. InOrder 1 priority-limit l) (priorities-are s (S .waiting) (wf .tasks) (wf .waiting) k v) (wf .waiting-in-order k o)
 
   sound-queue : (q : ℕ) → T (valid (queue q)) → QueueAt s q

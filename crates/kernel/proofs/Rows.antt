@@ -4,6 +4,7 @@ use mathlib.Core.Bool.{Bool, true, false, not, cond}
 use Prim.Native.Nat.{ℕ, _≤_}
 use lib.Dec.{T, leb, leb→le, le→leb}
 use mir.Facts.{and-yes, yes-and}
+use Rattle.model.proofs.Choices.{cond-yes}
 use Rattle.model.specs.Sizes.{within}
 use Rattle.model.specs.Rows.{Key, valid, Row, nothing}
 use Rattle.kernel.specs.declared.State.{State}
@@ -18,14 +19,6 @@ passes-or-not false y n = n tt
 pub cond-cases : {X : Type 0} (P : X → Type 0) (b : Bool) {x y : X} → (T b → P x) → (T (not b) → P y) → P (cond b x y)
 cond-cases P true p q = p tt
 cond-cases P false p q = q tt
-
-pub cond-yes : {X : Type 0} (b : Bool) (x y : X) → T b → cond b x y ≡ x
-cond-yes true x y t = refl
-cond-yes false x y t = absurd t
-
-pub cond-no : {X : Type 0} (b : Bool) (x y : X) → T (not b) → cond b x y ≡ y
-cond-no true x y t = absurd t
-cond-no false x y t = refl
 
 pub within-range : (low high n : ℕ) → T (within low high n) → (low ≤ n) × (n ≤ high)
 within-range low high n t = let b = and-yes (leb low n) (leb n high) t in (leb→le low n (b .0), leb→le n high (b .1))

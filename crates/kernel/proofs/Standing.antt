@@ -18,8 +18,8 @@ use Rattle.chain.proofs.Laws.{list-once}
 use Rattle.chain.proofs.Standing.{stands-in, stands-there, stands-nowhere, stands-within}
 use Rattle.model.specs.Sizes.{task-limit, mailbox-limit, message-limit}
 use Rattle.model.specs.Rows.{task, queue, mailbox, message, valid, TaskRow, QueueRow, MailboxRow, MessageRow}
-use Rattle.model.specs.WellFormed.{WaitQueue, senders-of, receivers-of, waiters-of, standing-in, wait-queue, named-mailbox}
-use Rattle.parts.specs.Chains.{object, task-chains, message-chains, chain-number, wait-chain, tasks-in, messages-in}
+use Rattle.model.specs.WellFormed.{WaitQueue, object-of, senders-of, receivers-of, waiters-of, standing-in, wait-queue, named-mailbox}
+use Rattle.parts.specs.Chains.{task-chains, message-chains, chain-number, wait-chain, tasks-in, messages-in}
 use Rattle.model.specs.declared.Wait.{Wait}
 use Rattle.model.specs.declared.Wait.the-variants.{NoWait, Sending, Receiving, AtMailbox}
 use Rattle.parts.specs.Tasks.{WaitSound}
@@ -53,13 +53,13 @@ some-number n h = go (is-eqb n 0)
 module _ (s : State) where
   -- ── What the rows of objects hold ──
 
-  pub standing-is : (k : WaitQueue) → T (valid (object k)) → standing-in (abs s .rows) k ≡ tasks-in (s .waiting .link) k
+  pub standing-is : (k : WaitQueue) → T (valid (object-of k)) → standing-in (abs s .rows) k ≡ tasks-in (s .waiting .link) k
   standing-is (senders-of q) v = ap (λ (x : QueueRow). x .senders) (row-is s (queue q) v)
   standing-is (receivers-of q) v = ap (λ (x : QueueRow). x .receivers) (row-is s (queue q) v)
   standing-is (waiters-of b) v = ap (λ (x : MailboxRow). x .waiters) (row-is s (mailbox b) v)
 
   -- Only a valid object has anything.
-  pub in-valid-object : (k : WaitQueue) {t : ℕ} → In t (standing-in (abs s .rows) k) → T (valid (object k))
+  pub in-valid-object : (k : WaitQueue) {t : ℕ} → In t (standing-in (abs s .rows) k) → T (valid (object-of k))
   in-valid-object (senders-of q) {t} i = row-cases s (queue q) (λ x. In t (x .senders) → T (valid (queue q))) (λ v j. v) (λ n j. absurd (List·Memᴰ·not-nil j)) i
   in-valid-object (receivers-of q) {t} i = row-cases s (queue q) (λ x. In t (x .receivers) → T (valid (queue q))) (λ v j. v) (λ n j. absurd (List·Memᴰ·not-nil j)) i
   in-valid-object (waiters-of b) {t} i = row-cases s (mailbox b) (λ x. In t (x .waiters) → T (valid (mailbox b))) (λ v j. v) (λ n j. absurd (List·Memᴰ·not-nil j)) i
@@ -81,11 +81,11 @@ module _ (s : State) where
         let r = member-range H (chain-number k) j in
         (stands-in H (chain-number k) j, in-range 1 task-limit t (r .0) (r .1))
 
-    pub in-queue : (k : WaitQueue) {t : ℕ} → T (valid (object k)) → chain-of t (task-lists s) ≡ chain-number k → In t (standing-in (abs s .rows) k)
+    pub in-queue : (k : WaitQueue) {t : ℕ} → T (valid (object-of k)) → chain-of t (task-lists s) ≡ chain-number k → In t (standing-in (abs s .rows) k)
     unfolding tasks-in
     in-queue k {t} v e = rw (standing-is k v) (stands-there t (chain-number k) (task-lists s) e (chain-range k v .0))
 
-    chain-once : (k : WaitQueue) → T (valid (object k)) → Once (getD (task-lists s) (chain-number k) [])
+    chain-once : (k : WaitQueue) → T (valid (object-of k)) → Once (getD (task-lists s) (chain-number k) [])
     chain-once k v = list-once (record { sound = H; low = chain-range k v .0; high = chain-range k v .1 })
 
     once : (k : WaitQueue) → Once (standing-in (abs s .rows) k)

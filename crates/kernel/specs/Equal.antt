@@ -6,8 +6,8 @@ use lib.Dec.{T}
 use lib.ListN.{getD}
 use Rattle.ring.specs.Ring.{stored}
 use Rattle.model.specs.Rows.{task, queue, mailbox, message, valid, messages-by-priority}
-use Rattle.model.specs.WellFormed.{WaitQueue}
-use Rattle.parts.specs.Chains.{object, tasks-in, messages-in}
+use Rattle.model.specs.WellFormed.{WaitQueue, object-of}
+use Rattle.parts.specs.Chains.{tasks-in, messages-in}
 use Rattle.parts.specs.declared.Task.{Task}
 use Rattle.parts.specs.declared.Queue.{Queue}
 use Rattle.parts.specs.declared.Mailbox.{Mailbox}
@@ -43,7 +43,7 @@ pub record SameState (s u : State) : Type 0 where
   pub queues : (q : ℕ) → T (valid (queue q)) → SameQueue (queue-at s q) (queue-at u q)
   pub mailboxes : (b : ℕ) → T (valid (mailbox b)) → SameMailbox (mailbox-at s b) (mailbox-at u b)
   -- Each chain in order.
-  pub wait-queues : (k : WaitQueue) → T (valid (object k)) → tasks-in (s .waiting .link) k ≡ tasks-in (u .waiting .link) k
+  pub wait-queues : (k : WaitQueue) → T (valid (object-of k)) → tasks-in (s .waiting .link) k ≡ tasks-in (u .waiting .link) k
   pub message-queues : (b : ℕ) → T (valid (mailbox b)) → messages-in (s .messages .link) b ≡ messages-in (u .messages .link) b
   -- The priorities kept with queued messages.
   pub kept-priorities : (g : ℕ) → T (valid (message g)) → T (keeps-priorities s (mailbox-of s g)) → getD (s .messages .key) g 0 ≡ getD (u .messages .key) g 0

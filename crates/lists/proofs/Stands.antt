@@ -2,7 +2,7 @@
 -- list is the changed one.
 use mathlib.Core.Path.{_≡_, refl, sym, _∙_, ap}
 use mathlib.Core.Bool.{Bool, not}
-use mathlib.Core.List.{List, [], _∷_, tail, map, headD, List·Memᴰ as In, List·Memᴰ·head as here, List·Memᴰ·tail as there, List·Memᴰ·not-nil, Memᴰ·cast}
+use mathlib.Core.List.{List, [], _∷_, tail, headD, List·Memᴰ as In, List·Memᴰ·head as here, List·Memᴰ·tail as there, List·Memᴰ·not-nil, Memᴰ·cast}
 use mathlib.Core.Logic.{_≢_, ⊎-elim}
 use mathlib.Core.Option.{Option, none, some, Option·none-ne-some, Option·some-injective}
 use Prim.Native.Nat.{ℕ, zero, suc}
@@ -74,11 +74,6 @@ pub not-empty-before : (l r : List ℕ) → (l ≡ [] → r ≡ []) → T (not (
 unfolding empty
 not-empty-before [] r h t = rw (h refl) at t
 not-empty-before (x ∷ l) r h t = tt
-
--- Functions that agree on the members of a list make the same of it.
-pub map-members : {X : Type 0} (f g : ℕ → X) (l : List ℕ) → ((x : ℕ) → In x l → f x ≡ g x) → map f l ≡ map g l
-map-members f g [] h = refl
-map-members f g (x ∷ l) h = cc (h x (here refl), map-members f g l (λ y i. h y (there i)))
 
 -- What holds of the members of a list holds of every element.
 pub each-member : {P : ℕ → Type 0} (l : List ℕ) → ((x : ℕ) → In x l → P x) → Each P l

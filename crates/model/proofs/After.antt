@@ -17,7 +17,7 @@ use Rattle.model.specs.WaitQueues.{take-out, end-wait}
 use Rattle.model.specs.Mailboxes.{free-messages}
 use Rattle.model.specs.WellFormed.{WaitQueue, senders-of, receivers-of, waiters-of, standing-in, wait-queue, WellFormedRows}
 use Rattle.model.specs.declared.Answer.{Answer}
-use Rattle.model.proofs.Tests.{cond-both}
+use Rattle.model.proofs.Choices.{cond-both}
 use Rattle.model.proofs.Standing.{message-cases, set-standing}
 use Rattle.model.proofs.RowMoves.{with-message-rows, freed, own-messages}
 

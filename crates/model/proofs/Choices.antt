@@ -1,6 +1,6 @@
 -- What a choice by a test gives when the test's answer is known: by cases of the answer.
 use mathlib.Core.Path.{_≡_, refl}
-use mathlib.Core.Bool.{Bool, true, false, _||_, cond}
+use mathlib.Core.Bool.{Bool, true, false, not, cond}
 use mathlib.Core.List.{List, List·Memᴰ as In}
 use Prim.Native.Nat.{ℕ}
 use lib.Dec.{T}
@@ -8,13 +8,17 @@ use Rattle.lists.specs.Lists.{one-of}
 use Rattle.lists.specs.Tests.{Whether, holds, fails}
 use Rattle.lists.proofs.Members.{is-one-of}
 
-pub only-left : (b : Bool) → T (b || false) → T b
-only-left true t = tt
-only-left false t = absurd t
-
 pub cond-yes : {X : Type 0} (b : Bool) (x y : X) → T b → cond b x y ≡ x
 cond-yes true x y t = refl
 cond-yes false x y t = absurd t
+
+pub cond-no : {X : Type 0} (b : Bool) (x y : X) → T (not b) → cond b x y ≡ y
+cond-no true x y t = absurd t
+cond-no false x y t = refl
+
+pub cond-both : {X : Type 0} {z : X} (b : Bool) (x y : X) → x ≡ z → (T (not b) → y ≡ z) → cond b x y ≡ z
+cond-both true x y e h = e
+cond-both false x y e h = h tt
 
 -- A number of a list, and any other.
 module _ {X : Type 0} (n : ℕ) (l : List ℕ) (x y : X) where

@@ -15,7 +15,7 @@ use Rattle.model.specs.Calls.{Call}
 use Rattle.model.specs.Waits.{Wait, NoWait, Sending, Receiving, AtMailbox}
 use Rattle.model.specs.Step.{program, step}
 use Rattle.model.specs.Isolation.{WaitsAt, Linked, WaitsIn, QueuedIn, Placed, CallOf, Carrier, owns, Own, Isolation, IsolationFromEmpty, Owners, owner, OwnedBy, IsolationOfMany}
-use Rattle.model.proofs.Tests.{cond-no, cond-both}
+use Rattle.model.proofs.Choices.{cond-no, cond-both}
 use Rattle.model.proofs.Step.{step-call}
 use Rattle.model.proofs.Footprints.{NamedIn, in-program}
 

@@ -20,8 +20,8 @@ use Rattle.model.specs.Mailboxes.{wait-for-message, receive-message, cre
 use Rattle.model.specs.Tasks.{define-task, rel-wai, sus-tsk, rsm-tsk, look, fetch}
 use Rattle.model.specs.Step.{effects, effect, no-call}
 use Rattle.model.specs.WellFormed.{EndAhead, WellFormedRows}
-use Rattle.model.proofs.Tests.{neither-left, or-left}
-use Rattle.model.proofs.Choices.{only-left, cond-yes}
+use Rattle.model.proofs.Tests.{neither-left, or-left, only-left}
+use Rattle.model.proofs.Choices.{cond-yes}
 use Rattle.model.proofs.Step.{numbered}
 use Rattle.model.proofs.Accepted.{Passes, Accepted}
 use Rattle.model.proofs.Checked.{queue-attribute, queue-capacity, mailbox-attribute, mailbox-highest, task-priority, exists-not, exists-already, caller-defined, caller-able, message-priority, message-free, task-waits, something-to-drop, wait-ends}

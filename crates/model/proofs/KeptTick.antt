@@ -14,8 +14,7 @@ use Rattle.model.specs.Codes.{E-TMOUT}
 use Rattle.model.specs.Waits.{Wait, NoWait, Sending, Receiving, AtMailbox, End, Never, At, able, wait-end, due}
 use Rattle.model.specs.Tasks.{expire, tick}
 use Rattle.model.specs.WellFormed.{EndAhead, WellFormedRows, WellFormed}
-use Rattle.model.proofs.Tests.{cond-no}
-use Rattle.model.proofs.Choices.{cond-yes}
+use Rattle.model.proofs.Choices.{cond-no, cond-yes}
 use Rattle.model.proofs.After.{After, after-return, after-get, after-if, Kept}
 use Rattle.model.proofs.KeptTasks.{kept-end-wait}
 

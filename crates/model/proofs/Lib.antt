@@ -1,12 +1,12 @@
 pub mod Open
 pub mod Tests
+pub mod Choices
 pub mod Step
 pub mod SixteenRuns
 pub mod Accepted
 pub mod Footprints
 pub mod Refusals
 pub mod Isolation
-pub mod Choices
 pub mod Standing
 pub mod WaitMoves
 pub mod RowMoves

@@ -11,15 +11,15 @@ use native.Mathlib.Omega.{arith}
 use lib.Dec.{T, T-not, eqb, leb, leb→le}
 use mir.Facts.{and-yes, no-eqb}
 use Rattle.lists.specs.Lists.{empty, insert-at, passed, one-of, InOrder, no-key, StandsWhereNamed}
-use Rattle.lists.proofs.Stands.{in-head, without-head, map-members, stands-leave, stands-join, stands-clear}
+use Rattle.lists.proofs.Members.{map-same}
+use Rattle.lists.proofs.Stands.{in-head, without-head, stands-leave, stands-join, stands-clear}
 use Rattle.rows.specs.Program as Program
 use Rattle.rows.specs.Program.{update}
 use Rattle.rows.proofs.Update.{update-same, update-other, update-cases}
 use Rattle.model.specs.Sizes.{mailbox-limit, priority-limit}
 use Rattle.model.specs.Rows.{Key, task, suspension, queue, mailbox, message, same-key, valid, Row, MailboxRow, MessageRow, messages-by-priority, free, with-messages}
 use Rattle.model.specs.WellFormed.{waiters-of, named-mailbox, MailboxWellFormed, WellFormedRows}
-use Rattle.model.proofs.Tests.{cond-no, cond-both}
-use Rattle.model.proofs.Choices.{cond-yes, cond-member, cond-no-member}
+use Rattle.model.proofs.Choices.{cond-no, cond-both, cond-yes, cond-member, cond-no-member}
 use Rattle.model.proofs.Standing.{changed, message-cases}
 use Rattle.model.proofs.WaitMoves.{is-valid, in-order-with, in-order-without}
 use Rattle.model.proofs.RowMoves.{with-message-rows, freed, own-messages, put-mailbox}
@@ -106,7 +106,7 @@ module _ {counter : ℕ} {soonest : ℕ → ℕ} {m : Program.Rows Row} (w : Wel
       own = ap (λ (y : MessageRow). y .priority) (update-same ℕ-discrete g x (λ j. m (message j)))
 
       others : map (λ j. rows g x l j .priority) old ≡ map (λ j. m (message j) .priority) old
-      others = map-members _ _ old (λ j i. ap (λ (y : MessageRow). y .priority)
+      others = map-same _ _ old (λ j i. ap (λ (y : MessageRow). y .priority)
           (update-other ℕ-discrete g x (λ j. m (message j)) j (λ e. Option·none-ne-some b (sym nowhere ∙ rw e at (w .queued .no-other j b i)))))
 
   -- The head message leaves.
@@ -141,7 +141,7 @@ module _ {counter : ℕ} {soonest : ℕ → ℕ} {m : Program.Rows Row} (w : Wel
       stays j i e = Option·none-ne-some b (sym (own-name g free (tail old)) ∙ rw e at (stands .no-other j b (rw (own-list g free (tail old)) i)))
 
       others : map (λ j. rows g free (tail old) j .priority) (tail old) ≡ map (λ j. m (message j) .priority) (tail old)
-      others = map-members _ _ (tail old) (λ j i. ap (λ (y : MessageRow). y .priority) (update-other ℕ-discrete g free (λ j. m (message j)) j (stays j i)))
+      others = map-same _ _ (tail old) (λ j i. ap (λ (y : MessageRow). y .priority) (update-other ℕ-discrete g free (λ j. m (message j)) j (stays j i)))
 
   -- All messages are freed, and the mailbox gets another row, where no task waits before and after.
   pub replace-mailbox : (v : MailboxRow) → m (mailbox b) .waiters ≡ [] → v .attribute ≤ 3 → (T (messages-by-priority (v .attribute)) → (1 ≤ v .highest) × (v .highest ≤ priority-limit))

@@ -38,9 +38,9 @@ refusals m c t = record {
   by-row = λ r. step-call m c t ∙ ap (λ o. record { state = record { environment = m .environment; rows = o .state }; answer = o .answer }) (run-refused (m .environment) c (m .rows) r);
   else-no-error = λ r n.
       let v = view-of (m .rows) c in
-      let row-if-valid : ViewWithin Everything v = record { senders = each-of-all (λ t. tt) _; receivers = each-of-all (λ t. tt) _; waiters = each-of-all (λ t. tt) _; messages = each-of-all (λ g. tt) _ } in
+      let shown : ViewWithin Everything v = record { senders = each-of-all (λ t. tt) _; receivers = each-of-all (λ t. tt) _; waiters = each-of-all (λ t. tt) _; messages = each-of-all (λ g. tt) _ } in
       rw (step-call m c t, run-accepted (m .environment) c (m .rows) r)
       (answer-is same-key NamedIn Everything (AnswersNoError (c .number)) (effect (m .environment) v c) (m .rows)
-      (in-effect Everything (m .environment) v c row-if-valid (accepted Everything v c (each-of-all (λ k t. tt) _) r) (passes v c r))
+      (in-effect Everything (m .environment) v c shown (accepted Everything v c (each-of-all (λ k t. tt) _) r) (passes v c r))
       (closed (m .rows)) n);
 }

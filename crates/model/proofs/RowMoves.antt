@@ -8,7 +8,7 @@ use mathlib.Core.Option.{Option·none-ne-some}
 use Prim.Native.Nat.{ℕ}
 use lib.Dec.{T}
 use Rattle.lists.specs.Lists.{one-of, InOrder, StandsWhereNamed}
-use Rattle.lists.proofs.Stands.{map-members}
+use Rattle.lists.proofs.Members.{map-same}
 use Rattle.rows.specs.Program as Program
 use Rattle.rows.specs.Program.{update}
 use Rattle.model.specs.Sizes.{priority-limit}
@@ -112,7 +112,7 @@ module _ {counter : ℕ} {soonest : ℕ → ℕ} {m : Program.Rows Row} (w : Wel
           (λ i. absurd (Option·none-ne-some d (ap wait-queue (sym before) ∙ w .waiting .no-other t d i))) j (λ n i. refl)
 
       in-order : (d : WaitQueue) → T (by-priority m d) → InOrder 1 priority-limit (map (λ j. n (task j) .priority) (standing-in m d))
-      in-order d p = rw (map-members (λ j. n (task j) .priority) (λ j. m (task j) .priority) (standing-in m d) (priority d)) (w .waiting-in-order d p)
+      in-order d p = rw (map-same (λ j. n (task j) .priority) (λ j. m (task j) .priority) (standing-in m d) (priority d)) (w .waiting-in-order d p)
 
   -- A suspension of a defined task, or none.
   pub put-suspension : (t : ℕ) (v : Bool) → T (valid (suspension t)) → (T v → T (m (task t) .defined)) → WellFormedRows counter soonest (update same-key (suspension t) v m)
@@ -151,7 +151,7 @@ module _ {counter : ℕ} {soonest : ℕ → ℕ} {m : Program.Rows Row} (w : Wel
     waiting-in-order = in-order;
     queued = stands;
     queued-in-order = λ j. mailbox-cases b m (λ i x. T (messages-by-priority (x .attribute)) → InOrder 1 (x .highest) (map (λ g. messages g .priority) (x .messages))) v message-order j
-        (λ n p. rw (map-members (λ g. messages g .priority) (λ g. m (message g) .priority) (m (mailbox j) .messages) (λ g i. sym (same-priorities j g n i))) (w .queued-in-order j p));
+        (λ n p. rw (map-same (λ g. messages g .priority) (λ g. m (message g) .priority) (m (mailbox j) .messages) (λ g i. sym (same-priorities j g n i))) (w .queued-in-order j p));
   }
     where
       messages-in-range : (k : Key) → T (not (valid k)) → with-message-rows messages m k ≡ nothing k

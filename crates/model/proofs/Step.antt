@@ -10,8 +10,9 @@ use Rattle.model.specs.Rows.{Key, task, suspension, queue, mailbox, mess
 use Rattle.model.specs.Codes.{finished}
 use Rattle.model.specs.Calls.{Call, View, row-if-valid, read-if-valid, read-view, view-of}
 use Rattle.model.specs.Errors.{refused, refusal}
+use Rattle.model.specs.Tasks.{tick}
 use Rattle.model.specs.Step.{program, effect, call, step}
-use Rattle.model.proofs.Tests.{cond-no}
+use Rattle.model.proofs.Choices.{cond-yes, cond-no}
 
 run-read-if-valid : (k : Key) (f : Row k → Effect) (m : Program.Rows Row) → run same-key (read-if-valid k f) m ≡ run same-key (f (row-if-valid m k)) m
 unfolding read-if-valid run
@@ -38,11 +39,16 @@ pub run-accepted : (e : Environment) (c : Call) (m : Program.Rows Row) → T (no
 unfolding program
 run-accepted e c m t = run-read-view c _ m ∙ run-no same-key _ _ _ m t
 
+-- Number 0 is the tick.
+pub step-tick : (m : Model) (c : Call) → T (eqb (c .number) 0) → step m c ≡ tick m
+unfolding step
+step-tick m c t = cond-yes (eqb (c .number) 0) (tick m) (call m c) t
+
 -- A call that is no tick is its program's step.
 pub step-call : (m : Model) (c : Call) → T (not (eqb (c .number) 0)) → step m c ≡ step-of same-key program m c
 unfolding step call
 step-call m c t = cond-no (eqb (c .number) 0) _ _ t
 
--- The call with another number, for what is row-if-valid for each number in turn.
+-- The call with another number, for what is shown for each number in turn.
 abbrev pub numbered : ℕ → Call → Call
 numbered n c = record { number = n; caller = c .caller; locked = c .locked; disabled = c .disabled; object = c .object; value = c .value; tmout = c .tmout; attribute = c .attribute }

@@ -1,6 +1,5 @@
 -- What a passed or failed test says of its parts, where the library has no such law: by cases on the first part.
-use mathlib.Core.Path.{_≡_, refl}
-use mathlib.Core.Bool.{Bool, true, false, not, cond, _&&_, _||_}
+use mathlib.Core.Bool.{Bool, true, false, not, _&&_, _||_}
 use lib.Dec.{T}
 
 -- The two halves of the library's `or-no`, which `search` can't take apart.
@@ -26,10 +25,6 @@ pub or-left : (a b : Bool) → T a → T (a || b)
 or-left true b t = tt
 or-left false b t = absurd t
 
-pub cond-no : {X : Type 0} (b : Bool) (x y : X) → T (not b) → cond b x y ≡ y
-cond-no true x y t = absurd t
-cond-no false x y t = refl
-
-pub cond-both : {X : Type 0} {z : X} (b : Bool) (x y : X) → x ≡ z → (T (not b) → y ≡ z) → cond b x y ≡ z
-cond-both true x y e h = e
-cond-both false x y e h = h tt
+pub only-left : (b : Bool) → T (b || false) → T b
+only-left true t = tt
+only-left false t = absurd t

@@ -16,14 +16,11 @@ use Rattle.model.specs.Sizes.{priority-limit}
 use Rattle.model.specs.Calls.{Call, view-of}
 use Rattle.model.specs.Waits.{Wait, NoWait, Sending, Receiving, AtMailbox}
 use Rattle.model.specs.Errors.{refused}
-use Rattle.model.specs.Tasks.{tick}
-use Rattle.model.specs.Step.{call, step, program}
+use Rattle.model.specs.Step.{step, program}
 use Rattle.model.specs.Isolation.{WaitsAt, QueuedAt}
-use Rattle.model.specs.WellFormed.{WaitQueue, senders-of, receivers-of, waiters-of, standing-in, by-priority, wait-queue, named-mailbox, WellFormedRows, WellFormed, KeptWellFormed, EmptyWellFormed, WellFormedLinked}
-use Rattle.model.proofs.Choices.{cond-yes}
-use Rattle.model.proofs.Step.{step-call, run-refused, run-accepted}
+use Rattle.model.specs.WellFormed.{WaitQueue, senders-of, receivers-of, waiters-of, object-of, standing-in, by-priority, wait-queue, named-mailbox, WellFormedRows, WellFormed, KeptWellFormed, EmptyWellFormed, WellFormedLinked}
+use Rattle.model.proofs.Step.{step-tick, step-call, run-refused, run-accepted}
 use Rattle.model.proofs.Accepted.{passes, accepted}
-use Rattle.model.proofs.WaitMoves.{object-of}
 use Rattle.model.proofs.KeptCalls.{Valid, kept-accepted}
 use Rattle.model.proofs.KeptTick.{kept-tick}
 
@@ -39,11 +36,6 @@ kept-program m c w = go (refused true (view-of (m .rows) c) c) (λ r. r) (λ r. 
     go false yes-case no-case = let ok = no-case tt in
         rw (run-accepted (m .environment) c (m .rows) ok)
         (kept-accepted (m .environment) c (w .counter-in-range) (w .rows) (accepted Valid (view-of (m .rows) c) c (each-of-all (λ k t. t) _) ok) (passes (view-of (m .rows) c) c ok) .holds)
-
--- Number 0 is the tick.
-step-tick : (m : Model) (c : Call) → T (eqb (c .number) 0) → step m c ≡ tick m
-unfolding step
-step-tick m c t = cond-yes (eqb (c .number) 0) (tick m) (call m c) t
 
 pub kept-well-formed : KeptWellFormed
 unfolding step-of

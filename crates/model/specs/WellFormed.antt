@@ -23,6 +23,12 @@ pub data WaitQueue : Type 0 where
   senders-of receivers-of waiters-of : ℕ → WaitQueue
   deriving Discrete as WaitQueue-discrete
 
+-- The object that it belongs to.
+abbrev pub object-of : WaitQueue → Key
+object-of (senders-of q) = queue q
+object-of (receivers-of q) = queue q
+object-of (waiters-of b) = mailbox b
+
 -- The tasks that stand in it, head first.
 abbrev pub standing-in : Program.Rows Row → WaitQueue → List ℕ
 standing-in m (senders-of q) = m (queue q) .senders

@@ -6,7 +6,6 @@ use Rattle.chain.specs.Table.{lists}
 use Rattle.model.specs.Sizes.{task-limit, message-limit}
 use Rattle.model.specs.declared.Wait.{Wait}
 use Rattle.model.specs.declared.Wait.the-variants.{NoWait, Sending, Receiving, AtMailbox}
-use Rattle.model.specs.Rows.{Key, queue, mailbox}
 use Rattle.model.specs.WellFormed.{WaitQueue, senders-of, receivers-of, waiters-of}
 
 abbrev pub task-chains : ℕ
@@ -14,12 +13,6 @@ task-chains = 48
 
 abbrev pub message-chains : ℕ
 message-chains = 16
-
--- The object that a wait queue belongs to.
-abbrev pub object : WaitQueue → Key
-object (senders-of q) = queue q
-object (receivers-of q) = queue q
-object (waiters-of b) = mailbox b
 
 -- The chain of a wait queue: first the senders of each data queue, then the receivers, then the waiters of each mailbox.
 abbrev pub chain-number : WaitQueue → ℕ
