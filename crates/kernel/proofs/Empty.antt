@@ -1,30 +1,27 @@
 -- A record in which nothing is defined and no number stands in a chain is sound and means the empty state: cell by cell.
-use mathlib.Core.Path.{_≡_, refl, sym, ap, _∙_, subst, fun-ext}
-use mathlib.Core.Bool.{Bool, true, false, not, cond}
-use mathlib.Core.List.{List, [], List·Memᴰ as In, List·Memᴰ·not-nil}
-use Prim.Native.Nat.{ℕ, zero, suc, _+_, _<_, _≤_}
+use mathlib.Core.Path.{_≡_, refl, sym, ap, subst, fun-ext}
+use mathlib.Core.Bool.{false}
+use mathlib.Core.List.{[], List·Memᴰ·not-nil}
+use Prim.Native.Nat.{ℕ, suc}
 use native.Mathlib.Omega.{arith}
 use lib.Dec.{T}
-use lib.ListN.{getD, length, replicate, length-replicate, getD-replicate}
+use lib.ListN.{replicate, getD-replicate}
 use Rattle.lists.specs.Lists.{one-of}
 use Rattle.lists.proofs.Reading.{all-same}
-use Rattle.chain.specs.Table.{lists, chain-of, key-cells}
+use Rattle.chain.specs.Table.{lists}
 use Rattle.chain.specs.Changes.{New}
 use Rattle.chain.proofs.Standing.{stands-nowhere}
-use Rattle.ring.specs.Ring.{stored, Empty}
+use Rattle.ring.specs.Ring.{Empty}
 use Rattle.ring.specs.declared.Ring.{Ring}
-use Rattle.model.specs.Sizes.{task-limit, queue-limit, mailbox-limit, message-limit}
-use Rattle.model.specs.Rows.{Key, task, suspension, queue, mailbox, message, valid, Model, nothing, empty-state}
-use Rattle.model.specs.WellFormed.{WellFormed, WaitQueue, senders-of, receivers-of, waiters-of}
+use Rattle.model.specs.Sizes.{task-limit, queue-limit, message-limit}
+use Rattle.model.specs.Rows.{Key, task, suspension, queue, mailbox, message, valid, nothing, empty-state}
+use Rattle.model.specs.WellFormed.{WellFormed, WaitQueue, senders-of, receivers-of}
 use Rattle.model.proofs.WellFormed.{empty-well-formed}
 use Rattle.parts.specs.Chains.{task-chains, message-chains, chain-number, tasks-in, messages-in}
-use Rattle.parts.specs.Tasks.{task-row}
-use Rattle.parts.specs.Queues.{queue-row}
-use Rattle.parts.specs.Mailboxes.{mailbox-row}
 use Rattle.parts.specs.declared.Task.{Task}
 use Rattle.parts.specs.declared.Queue.{Queue}
 use Rattle.kernel.specs.declared.State.{State}
-use Rattle.kernel.specs.Meaning.{no-task-cell, no-mailbox-cell, task-at, queue-at, mailbox-at, mailbox-of, keeps-priorities, cells-of, abs}
+use Rattle.kernel.specs.Meaning.{no-task-cell, no-mailbox-cell, task-at, queue-at, mailbox-of, cells-of, abs}
 use Rattle.kernel.specs.Sound.{Sound}
 use Rattle.kernel.proofs.Rows.{within-range, cond-cases}
 

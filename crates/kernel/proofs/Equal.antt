@@ -2,7 +2,7 @@
 use mathlib.Core.Path.{_≡_, refl, sym, ap, _∙_, subst, fun-ext}
 use mathlib.Core.Bool.{Bool, true, false, not, cond}
 use mathlib.Core.List.{List, []}
-use Prim.Native.Nat.{ℕ, zero, suc, _<_, _≤_}
+use Prim.Native.Nat.{ℕ, zero, suc, _<_}
 use native.Mathlib.Omega.{arith}
 use lib.Dec.{T, T-not}
 use lib.ListN.{getD, length}
@@ -10,9 +10,8 @@ use lib.Seq.{ext-getD}
 use Rattle.lists.specs.Lists.{one-of}
 use Rattle.chain.specs.Table.{chain-of}
 use Rattle.chain.proofs.Table.{length-lists, list-none}
-use Rattle.ring.specs.Ring.{stored}
 use Rattle.model.specs.Sizes.{mailbox-limit, message-limit}
-use Rattle.model.specs.Rows.{Key, task, suspension, queue, mailbox, message, valid, Row, TaskRow, QueueRow, MailboxRow, MessageRow, Model, messages-by-priority, nothing}
+use Rattle.model.specs.Rows.{Key, task, suspension, queue, mailbox, message, valid, TaskRow, QueueRow, MailboxRow, MessageRow, Model, messages-by-priority, nothing}
 use Rattle.model.specs.WellFormed.{WaitQueue, object-of, senders-of, receivers-of, waiters-of}
 use Rattle.model.specs.declared.Wait.the-variants.{NoWait}
 use Rattle.model.proofs.Choices.{cond-no, cond-yes}

@@ -1,7 +1,7 @@
 -- The priorities in a wait queue and in a queue of messages are the keys of its chain: whoever stands there is defined, and keeps a priority.
-use mathlib.Core.Path.{_≡_, refl, sym, ap, _∙_, subst}
-use mathlib.Core.Bool.{not, cond, false}
-use mathlib.Core.List.{List, map, List·Memᴰ as In}
+use mathlib.Core.Path.{_≡_, sym, ap, _∙_, subst}
+use mathlib.Core.Bool.{cond, false}
+use mathlib.Core.List.{map, List·Memᴰ as In}
 use mathlib.Core.Option.{some, Option·none-ne-some}
 use Prim.Native.Nat.{ℕ}
 use lib.Dec.{T}
@@ -17,7 +17,7 @@ use Rattle.parts.specs.Chains.{task-chains, message-chains, tasks-in, messages-
 use Rattle.parts.specs.Tasks.{task-row}
 use Rattle.parts.specs.Mailboxes.{kept-attribute}
 use Rattle.kernel.specs.declared.State.{State}
-use Rattle.kernel.specs.Meaning.{task-at, mailbox-at, mailbox-of, keeps-priorities, abs}
+use Rattle.kernel.specs.Meaning.{task-at, mailbox-at, keeps-priorities, abs}
 use Rattle.kernel.proofs.Rows.{passes-or-not, row-is}
 use Rattle.kernel.proofs.Standing.{standing-is, messages-are, in-chain, in-mailbox}
 

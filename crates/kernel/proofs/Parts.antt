@@ -1,28 +1,27 @@
 -- A record is sound exactly when its chains are and each task, data queue and mailbox is by itself: what a test can look at one after the other.
 use mathlib.Core.Path.{_≡_, refl, sym, ap, _∙_, subst}
-use mathlib.Core.Bool.{true, false, not, cond}
-use mathlib.Core.List.{List, [], map}
-use Prim.Native.Nat.{ℕ, _<_, _≤_}
-use native.Mathlib.Omega.{arith}
+use mathlib.Core.Bool.{not}
+use mathlib.Core.List.{map}
+use Prim.Native.Nat.{ℕ, _<_}
 use lib.Dec.{T, T-not}
 use lib.ListN.{getD}
 use Rattle.lists.specs.Lists.{one-of, InOrder, StandsWhereNamed}
 use Rattle.chain.specs.Table.{chain-of, keys-of}
 use Rattle.chain.specs.Table as chain
 use Rattle.model.specs.Sizes.{task-limit, message-limit, priority-limit, counter-span}
-use Rattle.model.specs.Rows.{Key, task, suspension, queue, mailbox, message, valid, TaskRow, QueueRow, MailboxRow, messages-by-priority, waiters-by-priority, senders-by-priority, nothing}
-use Rattle.model.specs.WellFormed.{WaitQueue, object-of, senders-of, receivers-of, waiters-of, standing-in, by-priority, wait-queue, TaskWellFormed, QueueWellFormed, MailboxWellFormed, WellFormedRows, WellFormed}
+use Rattle.model.specs.Rows.{task, suspension, queue, mailbox, message, valid, TaskRow, QueueRow, MailboxRow, messages-by-priority, waiters-by-priority, senders-by-priority, nothing}
+use Rattle.model.specs.WellFormed.{WaitQueue, object-of, senders-of, receivers-of, waiters-of, standing-in, by-priority, wait-queue, TaskWellFormed, QueueWellFormed, MailboxWellFormed, WellFormedRows}
 use Rattle.model.proofs.Choices.{cond-yes}
 use Rattle.model.proofs.WellFormed.{empty-well-formed}
-use Rattle.parts.specs.Chains.{task-chains, message-chains, tasks-in, messages-in}
+use Rattle.parts.specs.Chains.{task-chains, message-chains, tasks-in}
 use Rattle.parts.specs.Tasks.{TaskSound, WaitSound}
 use Rattle.parts.specs.Queues.{QueueSound}
 use Rattle.parts.specs.Mailboxes.{kept-attribute, MailboxSound}
 use Rattle.kernel.specs.declared.State.{State}
 use Rattle.kernel.specs.Meaning.{task-at, queue-at, mailbox-at, abs}
 use Rattle.kernel.specs.Sound.{Sizes, Sound}
-use Rattle.kernel.proofs.Rows.{passes-or-not, row-is, row-cases}
-use Rattle.kernel.proofs.Standing.{task-lists, standing-is, messages-are, waiting-from, stands-from, queued-from}
+use Rattle.kernel.proofs.Rows.{row-is, row-cases}
+use Rattle.kernel.proofs.Standing.{task-lists, waiting-from, stands-from, queued-from}
 use Rattle.kernel.proofs.Keys.{priorities-are, kept-priorities-are}
 
 -- Each part by itself.

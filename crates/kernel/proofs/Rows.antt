@@ -1,5 +1,5 @@
 -- What is read of a record's rows: its cells where the number is valid, and nothing elsewhere. By the decision whether it is.
-use mathlib.Core.Path.{_≡_, refl}
+use mathlib.Core.Path.{_≡_}
 use mathlib.Core.Bool.{Bool, true, false, not, cond}
 use Prim.Native.Nat.{ℕ, _≤_}
 use lib.Dec.{T, leb, leb→le, le→leb}

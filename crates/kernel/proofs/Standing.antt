@@ -1,9 +1,9 @@
 -- Where tasks and messages stand, read from the rows and from the tables of chains: each number stands in one chain at most.
 use mathlib.Core.Path.{_≡_, refl, sym, ap, _∙_}
-use mathlib.Core.Bool.{Bool, not, cond}
+use mathlib.Core.Bool.{Bool, cond}
 use mathlib.Core.List.{List, [], List·Memᴰ as In, List·Memᴰ·not-nil}
 use mathlib.Core.Option.{none, some, Option·none-ne-some, Option·some-injective}
-use Prim.Native.Nat.{ℕ, zero, suc, _<_, _≤_}
+use Prim.Native.Nat.{ℕ, _<_, _≤_}
 use native.Mathlib.Omega.{arith}
 use lib.Dec.{T, eqb}
 use lib.ListN.{getD}
@@ -12,7 +12,6 @@ use Rattle.lists.specs.Lists as lists
 use Rattle.lists.specs.Tests.{Whether, holds, fails}
 use Rattle.lists.proofs.Tests.{is-eqb}
 use Rattle.chain.specs.Table.{lists, chain-of, Sound}
-use Rattle.chain.specs.Changes.{HasChain}
 use Rattle.chain.proofs.Table.{chain-has, member-range}
 use Rattle.chain.proofs.Laws.{list-once}
 use Rattle.chain.proofs.Standing.{stands-in, stands-there, stands-nowhere, stands-within}
@@ -26,7 +25,7 @@ use Rattle.parts.specs.Tasks.{WaitSound}
 use Rattle.kernel.specs.declared.State.{State}
 use Rattle.kernel.specs.Meaning.{task-at, mailbox-of, abs}
 use Rattle.kernel.proofs.Rows.{within-range, in-range, row-is, row-cases}
-use Rattle.kernel.proofs.Chains.{chain-range, ChainOwner, chain-owner, named-chain, named-queue}
+use Rattle.kernel.proofs.Chains.{chain-range, chain-owner, named-chain, named-queue}
 
 -- The lists of the two tables.
 abbrev pub task-lists : State → List (List ℕ)

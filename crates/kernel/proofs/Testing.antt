@@ -13,7 +13,6 @@ use Rattle.lists.proofs.Tests.{passed-test, passes-test}
 use Rattle.chain.specs.Table.{chain-of}
 use Rattle.chain.specs.Table as chain
 use Rattle.model.specs.Sizes.{task-limit, queue-limit, mailbox-limit, message-limit, counter-span}
-use Rattle.model.specs.Rows.{task, queue, mailbox, valid}
 use Rattle.parts.specs.Chains.{task-chains, message-chains}
 use Rattle.parts.specs.Tasks.{TaskSound}
 use Rattle.parts.specs.Queues.{QueueTestable}

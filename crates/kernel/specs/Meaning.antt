@@ -1,12 +1,12 @@
 -- Document 01, "A sound record", what equal states agree on: the rows that a record means.
 use mathlib.Core.Bool.{Bool, false, cond}
-use mathlib.Core.List.{List, []}
+use mathlib.Core.List.{[]}
 use Prim.Native.Nat.{ℕ}
 use lib.ListN.{getD}
 use Rattle.rows.specs.Program as Program
 use Rattle.chain.specs.Table.{lists, chain-of}
 use Rattle.model.specs.Sizes.{message-limit}
-use Rattle.model.specs.Rows.{Key, task, suspension, queue, mailbox, message, valid, Row, MessageRow, Model, messages-by-priority}
+use Rattle.model.specs.Rows.{task, suspension, queue, mailbox, message, valid, Row, Model, messages-by-priority}
 use Rattle.model.specs.Calls.{row-if-valid}
 use Rattle.model.specs.WellFormed.{senders-of, receivers-of, waiters-of}
 use Rattle.model.specs.declared.Code.the-variants.{Ok}

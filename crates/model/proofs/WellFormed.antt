@@ -9,7 +9,6 @@ use lib.Dec.{T, eqb}
 use Rattle.lists.specs.Lists.{empty, one-of, InOrder, no-key}
 use Rattle.lists.proofs.Each.{each-of-all}
 use Rattle.lists.proofs.Stands.{each-member, stands-nowhere}
-use Rattle.rows.specs.Program as Program
 use Rattle.rows.specs.Program.{run, step-of}
 use Rattle.model.specs.Rows.{task, message, same-key, MessageRow, no-task, nothing as no-rows, Model}
 use Rattle.model.specs.Sizes.{priority-limit}

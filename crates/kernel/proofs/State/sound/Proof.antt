@@ -1,8 +1,8 @@
 -- `State::sound` is exact. The first loop keeps that the tasks passed are sound, the second that the objects passed are; the numbers left get fewer.
 use mathlib.Core.Path.{_≡_, refl}
-use Prim.Native.Nat.{ℕ, _-_, _<_, _≤_}
+use Prim.Native.Nat.{_-_, _≤_}
 use native.Mathlib.Omega.{arith}
-use lib.ListN.{length, length-map}
+use lib.ListN.{length-map}
 use borrow.Author.Needs.{needs}
 use borrow.Author.Tests.{not-false}
 use Rattle.lists.specs.Tests.{holds, fails}
