@@ -1,5 +1,6 @@
 // The soundness test of the kernel's state in ordinary Rust, to be measured beside the proved one. KIND is empty, typical or full.
-// `sound KIND COUNT` tests the record of that kind COUNT times and fails unless it is sound each time.
+// `sound FORM KIND COUNT` tests the record of that kind COUNT times and fails unless it is sound each time. The form is `same`, where a chain is
+// followed for as many numbers as the table has, as in the proved test, or `tuned`, where only the marks end a chain that comes round.
 // `sound record KIND COUNT` writes the same record, to be tested COUNT times, for the proved test's program (bench/records.rs has the format).
 // `sound judge` reads records and prints its answers as that program does, so that bench/records.rs can compare this test too.
 use std::hint::black_box;
@@ -105,25 +106,29 @@ const RECEIVERS: usize = TASKS + OBJECTS;
 const WAITERS: usize = TASKS + 2 * OBJECTS;
 const QUEUED: usize = MESSAGES;
 
-// ── The test ──
+// ── The test, all of it in one function, as the proved one is compiled ──
 
-// Marks each number with the chain that it stands in. A marked number stands in two places, or its chain comes round; so no chain is
-// followed for more than NUMBERS of them.
-fn mark<const NUMBERS: usize>(link: &[u8; CELLS], marks: &mut [u8; KEY_CELLS]) -> bool {
+// Marks each number with the chain that it stands in. A marked number stands in two places, or its chain comes round. Where COUNTED, the
+// numbers left are counted too.
+#[inline(always)]
+fn mark<const NUMBERS: usize, const COUNTED: bool>(link: &[u8; CELLS], marks: &mut [u8; KEY_CELLS]) -> bool {
     for chain in 1..CELLS - NUMBERS {
         let mut next = link[NUMBERS + chain] as usize;
+        let mut left = NUMBERS;
         while next != 0 {
-            if next > NUMBERS || marks[next] != 0 {
+            if COUNTED && left == 0 || next > NUMBERS || marks[next] != 0 {
                 return false;
             }
             marks[next] = chain as u8;
             next = link[next] as usize;
+            left -= 1;
         }
     }
     true
 }
 
 // Whether the keys of a chain lie between 1 and `most`, with none smaller than the one before it.
+#[inline(always)]
 fn in_order(chains: &Chains, head: usize, most: u8) -> bool {
     let mut least = 1;
     let mut next = chains.link[head] as usize;
@@ -138,6 +143,7 @@ fn in_order(chains: &Chains, head: usize, most: u8) -> bool {
     true
 }
 
+#[inline(always)]
 fn end_sound(end: End, counter: u32) -> bool {
     match end {
         End::Never => true,
@@ -146,10 +152,12 @@ fn end_sound(end: End, counter: u32) -> bool {
 }
 
 // Whether an object's number is in range and `standing` is its chain, which has `before` chains of other kinds before those of its own.
+#[inline(always)]
 fn names_chain(standing: u8, before: u8, number: u8) -> bool {
     (1..=16).contains(&number) && standing == before + number
 }
 
+#[inline(always)]
 fn task_sound(task: &Task, priority: u8, standing: u8, counter: u32) -> bool {
     if !task.defined {
         return !task.suspended && standing == 0 && matches!(task.wait, Wait::NoWait);
@@ -165,6 +173,7 @@ fn task_sound(task: &Task, priority: u8, standing: u8, counter: u32) -> bool {
     }
 }
 
+#[inline(always)]
 fn queue_sound(queue: &Queue, waiting: &Chains, number: usize) -> bool {
     let has_sender = waiting.link[SENDERS + number] != 0;
     let has_receiver = waiting.link[RECEIVERS + number] != 0;
@@ -181,6 +190,7 @@ fn queue_sound(queue: &Queue, waiting: &Chains, number: usize) -> bool {
     queue.attribute == 0 || in_order(waiting, SENDERS + number, 16)
 }
 
+#[inline(always)]
 fn mailbox_sound(mailbox: &Mailbox, waiting: &Chains, messages: &Chains, number: usize) -> bool {
     let has_waiter = waiting.link[WAITERS + number] != 0;
     let has_message = messages.link[QUEUED + number] != 0;
@@ -197,10 +207,10 @@ fn mailbox_sound(mailbox: &Mailbox, waiting: &Chains, messages: &Chains, number:
 }
 
 #[inline(never)]
-fn sound(state: &State) -> bool {
+fn sound<const COUNTED: bool>(state: &State) -> bool {
     let mut standing = [0; KEY_CELLS];
     let mut queued = [0; KEY_CELLS];
-    if !mark::<TASKS>(&state.waiting.link, &mut standing) || !mark::<MESSAGES>(&state.messages.link, &mut queued) {
+    if !mark::<TASKS, COUNTED>(&state.waiting.link, &mut standing) || !mark::<MESSAGES, COUNTED>(&state.messages.link, &mut queued) {
         return false;
     }
     for task in 1..TASKS + 1 {
@@ -219,8 +229,8 @@ fn sound(state: &State) -> bool {
     true
 }
 
-fn sound_each_time(state: &State, count: u32) -> bool {
-    (0..count).all(|_| sound(black_box(state)))
+fn sound_each_time<const COUNTED: bool>(state: &State, count: u32) -> bool {
+    (0..count).all(|_| sound::<COUNTED>(black_box(state)))
 }
 
 // ── The records that are measured ──
@@ -443,7 +453,7 @@ fn judge() -> std::io::Result<()> {
         let repeat = bytes.number();
         let label: [u8; 60] = bytes.some();
         let state = bytes.state();
-        let answer = if sound_each_time(&state, repeat) { ": sound\n" } else { ": not sound\n" };
+        let answer = if sound_each_time::<true>(&state, repeat) { ": sound\n" } else { ": not sound\n" };
         output.extend(label.iter().filter(|letter| **letter != 0));
         output.extend(answer.bytes());
     }
@@ -459,7 +469,8 @@ fn run(words: &[&str]) -> Option<bool> {
             let record = encode(kind, count.parse().ok()?, &record_of(kind)?);
             Some(std::io::stdout().write_all(&record).is_ok())
         }
-        [kind, count] => Some(sound_each_time(&record_of(kind)?, count.parse().ok()?)),
+        ["same", kind, count] => Some(sound_each_time::<true>(&record_of(kind)?, count.parse().ok()?)),
+        ["tuned", kind, count] => Some(sound_each_time::<false>(&record_of(kind)?, count.parse().ok()?)),
         _ => None,
     }
 }
@@ -471,7 +482,7 @@ fn main() {
         Some(true) => {}
         Some(false) => exit(1),
         None => {
-            eprintln!("sound KIND COUNT, sound record KIND COUNT, or sound judge; KIND is empty, typical or full");
+            eprintln!("sound FORM KIND COUNT, sound record KIND COUNT, or sound judge; FORM is same or tuned, KIND is empty, typical or full");
             exit(2);
         }
     }
