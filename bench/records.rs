@@ -635,7 +635,7 @@ fn misnamed(state: &mut State, stands: (Kind, usize), names: (Kind, u8)) {
 }
 
 // Everything that belongs to number 0 breaks a sentence.
-fn garbage_at_zero(state: &mut State) {
+fn any_numbers_at_zero(state: &mut State) {
     let wait = Some(Wait { kind: AtMailbox, object: 99, end: Some(state.counter), word: 9 });
     state.tasks[0] = Task { defined: true, suspended: true, priority: 99, wait, code: -5, word: 9, next: 99 };
     state.queues[0] = Queue { defined: true, attribute: 99, ring_head: 99, count: 99, capacity: 98, ..Queue::default() };
@@ -645,14 +645,14 @@ fn garbage_at_zero(state: &mut State) {
 
 // Priority, code and word of an undefined task, attribute, ring and capacity of an undefined queue, attribute and highest of an undefined
 // mailbox.
-fn garbage_in_the_undefined(state: &mut State) {
+fn any_numbers_in_the_undefined(state: &mut State) {
     state.tasks[13] = Task { priority: 99, code: -5, word: 9, next: 99, ..Task::default() };
     state.queues[6] = Queue { attribute: 99, ring_head: 99, capacity: 99, ..Queue::default() };
     state.mailboxes[6] = Mailbox { attribute: 99, highest: 99, ..Mailbox::default() };
 }
 
 // What stands behind a task or message that is in no chain, its priority, and the priorities that belong to nobody.
-fn garbage_in_unused_cells(state: &mut State) {
+fn any_numbers_in_unused_cells(state: &mut State) {
     state.tasks[9].next = 9;
     state.tasks[10].next = 1;
     state.tasks[11].next = 255;
@@ -688,11 +688,11 @@ const SOUND: [HandMade; 28] = [
         s.counter = u32::MAX;
         s.tasks[2].wait.as_mut().unwrap().end = None
     }),
-    ("garbage in cells 0", None, garbage_at_zero),
-    ("garbage in undefined things", None, garbage_in_the_undefined),
-    ("garbage in unused cells", None, garbage_in_unused_cells),
-    ("garbage in a highest priority without attribute 2", None, |s| s.mailboxes[2].highest = 99),
-    ("garbage in priorities of messages without attribute 2", None, |s| {
+    ("any numbers in cells 0", None, any_numbers_at_zero),
+    ("any numbers in undefined things", None, any_numbers_in_the_undefined),
+    ("any numbers in unused cells", None, any_numbers_in_unused_cells),
+    ("any number as highest priority without attribute 2", None, |s| s.mailboxes[2].highest = 99),
+    ("any numbers in priorities of messages without attribute 2", None, |s| {
         s.messages[31].priority = 99;
         s.messages[30].priority = 0
     }),
@@ -918,7 +918,7 @@ impl Random {
 }
 
 // Nothing is defined, and wherever anything may stand, anything stands.
-fn random_garbage(random: &mut Random) -> State {
+fn random_unused(random: &mut Random) -> State {
     let mut state = State::empty();
     state.counter = match random.from_to(0, 3) {
         0 => random.from_to(0, 3) as u32,
@@ -940,7 +940,7 @@ fn random_garbage(random: &mut Random) -> State {
     }
     state.spare_priorities.iter_mut().for_each(|priority| *priority = random.byte());
     if random.one_in(2) {
-        garbage_at_zero(&mut state);
+        any_numbers_at_zero(&mut state);
     }
     state
 }
@@ -1051,7 +1051,7 @@ fn fill_random_chains(state: &mut State, random: &mut Random, mut open: Vec<Open
 
 // A state that is sound by the way it is made.
 fn random_sound(random: &mut Random) -> State {
-    let mut state = random_garbage(random);
+    let mut state = random_unused(random);
     let share = random.one_of(&[1, 4, 7, 8]);
     define_random_tasks(&mut state, random, share);
     let mut open = define_random_queues(&mut state, random, share);

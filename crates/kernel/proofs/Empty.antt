@@ -46,7 +46,7 @@ module _ (s : State) (r : Ring) (empty : Empty 0 r) (b : Blank r s) where
   unfolding messages-in
   no-messages-in x = rw (b .messages .lists-are message-limit message-chains (omega arith) (omega arith)) (all-same [] (suc message-chains) x)
 
-  in-no-mailbox : (g : ℕ) → mailbox-of s g ≡ 0
+  in-no-mailbox : (g : ℕ) → mailbox-of (s .messages .link) g ≡ 0
   unfolding mailbox-of messages-in
   in-no-mailbox g = stands-nowhere g (lists message-limit message-chains (s .messages .link)) (λ x i. List·Memᴰ·not-nil (rw (no-messages-in x) at i))
 

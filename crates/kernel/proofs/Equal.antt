@@ -97,11 +97,11 @@ module _ (s u : State) (S : Sound s) (U : Sound u) (e : SameState s u) where
           let n = length-lists message-limit message-chains (s .messages .link) in
           e .message-queues (suc b) (in-range 1 mailbox-limit (suc b) (omega arith) (omega arith))
 
-  mailbox-of-same : (g : ℕ) → mailbox-of s g ≡ mailbox-of u g
+  mailbox-of-same : (g : ℕ) → mailbox-of (s .messages .link) g ≡ mailbox-of (u .messages .link) g
   unfolding mailbox-of
   mailbox-of-same g = ap (chain-of g) message-lists-same
 
-  keeps-same : (b : ℕ) → keeps-priorities s b ≡ keeps-priorities u b
+  keeps-same : (b : ℕ) → keeps-priorities (s .mailboxes) b ≡ keeps-priorities (u .mailboxes) b
   keeps-same b = kept-same (valid (mailbox b)) (valid (mailbox b)) _ _ false refl (λ v. ap messages-by-priority (attribute-same (e .mailboxes b v)))
 
   cells-same : (k : Key) → T (valid k) → cells-of s k ≡ cells-of u k
@@ -109,7 +109,7 @@ module _ (s u : State) (S : Sound s) (U : Sound u) (e : SameState s u) where
   cells-same (suspension t) v = suspension-same (e .tasks t v) (p .tasks t v .row .undefined) (p′ .tasks t v .row .undefined) (p .tasks t v .suspension) (p′ .tasks t v .suspension)
   cells-same (queue q) v = queue-row-same (e .queues q v) (e .wait-queues (senders-of q) v) (e .wait-queues (receivers-of q) v)
   cells-same (mailbox b) v = mailbox-row-same (e .mailboxes b v) (e .wait-queues (waiters-of b) v) (e .message-queues b v)
-  cells-same (message g) v = cc (mailbox-of-same g, kept-same (keeps-priorities s (mailbox-of s g)) (keeps-priorities u (mailbox-of u g)) (getD (s .messages .key) g 0) (getD (u .messages .key) g 0) 0 (keeps-same (mailbox-of s g) ∙ ap (keeps-priorities u) (mailbox-of-same g)) (e .kept-priorities g v))
+  cells-same (message g) v = cc (mailbox-of-same g, kept-same (keeps-priorities (s .mailboxes) (mailbox-of (s .messages .link) g)) (keeps-priorities (u .mailboxes) (mailbox-of (u .messages .link) g)) (getD (s .messages .key) g 0) (getD (u .messages .key) g 0) 0 (keeps-same (mailbox-of (s .messages .link) g) ∙ ap (keeps-priorities (u .mailboxes)) (mailbox-of-same g)) (e .kept-priorities g v))
 
   rows-same : (k : Key) → abs s .rows k ≡ abs u .rows k
   unfolding abs
@@ -166,12 +166,12 @@ module _ (s u : State) (e : abs s ≡ abs u) where
   means-wait-queue (receivers-of q) v = ap (λ (x : QueueRow). x .receivers) (cells (queue q) v)
   means-wait-queue (waiters-of b) v = ap (λ (x : MailboxRow). x .waiters) (cells (mailbox b) v)
 
-  means-priority : (g : ℕ) → T (valid (message g)) → T (keeps-priorities s (mailbox-of s g)) → getD (s .messages .key) g 0 ≡ getD (u .messages .key) g 0
-  means-priority g v = same-kept (keeps-priorities s (mailbox-of s g)) (keeps-priorities u (mailbox-of u g)) _ _ 0 keeps (ap (λ (x : MessageRow). x .priority) (cells (message g) v))
+  means-priority : (g : ℕ) → T (valid (message g)) → T (keeps-priorities (s .mailboxes) (mailbox-of (s .messages .link) g)) → getD (s .messages .key) g 0 ≡ getD (u .messages .key) g 0
+  means-priority g v = same-kept (keeps-priorities (s .mailboxes) (mailbox-of (s .messages .link) g)) (keeps-priorities (u .mailboxes) (mailbox-of (u .messages .link) g)) _ _ 0 keeps (ap (λ (x : MessageRow). x .priority) (cells (message g) v))
     where
-      keeps : keeps-priorities s (mailbox-of s g) ≡ keeps-priorities u (mailbox-of u g)
-      keeps = kept-same (valid (mailbox (mailbox-of s g))) (valid (mailbox (mailbox-of s g))) _ _ false refl (λ w. ap messages-by-priority (ap (λ (x : MailboxRow). x .attribute) (cells (mailbox (mailbox-of s g)) w)))
-          ∙ ap (keeps-priorities u) (ap (λ (x : MessageRow). x .queued-in) (cells (message g) v))
+      keeps : keeps-priorities (s .mailboxes) (mailbox-of (s .messages .link) g) ≡ keeps-priorities (u .mailboxes) (mailbox-of (u .messages .link) g)
+      keeps = kept-same (valid (mailbox (mailbox-of (s .messages .link) g))) (valid (mailbox (mailbox-of (s .messages .link) g))) _ _ false refl (λ w. ap messages-by-priority (ap (λ (x : MailboxRow). x .attribute) (cells (mailbox (mailbox-of (s .messages .link) g)) w)))
+          ∙ ap (keeps-priorities (u .mailboxes)) (ap (λ (x : MessageRow). x .queued-in) (cells (message g) v))
 
   means-same : SameState s u
   unfolding abs

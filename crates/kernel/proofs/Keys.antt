@@ -41,7 +41,7 @@ module _ (s : State) (H : Sound task-limit task-chains (s .waiting .link)) (task
 
 -- Whatever is queued in a mailbox by priority keeps its priority.
 module _ (s : State) (H : Sound message-limit message-chains (s .messages .link)) (b : ℕ) (v : T (valid (mailbox b))) (by-priority : T (messages-by-priority (kept-attribute (mailbox-at s b)))) where
-  keeps : T (keeps-priorities s b)
+  keeps : T (keeps-priorities (s .mailboxes) b)
   keeps = subst T (sym (cond-yes (valid (mailbox b)) _ false v)) by-priority
 
   pub kept-priorities-are : map (λ g. abs s .rows (message g) .priority) (abs s .rows (mailbox b) .messages) ≡ keys-of (s .messages .key) (messages-in (s .messages .link) b)
@@ -52,4 +52,4 @@ module _ (s : State) (H : Sound message-limit message-chains (s .messages .link)
       same g i =
           let c = in-mailbox s H b i in
           ap (λ (x : MessageRow). x .priority) (row-is s (message g) (c .1))
-          ∙ (ap (λ n. cond (keeps-priorities s n) (getD (s .messages .key) g 0) 0) (c .0) ∙ cond-yes (keeps-priorities s b) _ _ keeps)
+          ∙ (ap (λ n. cond (keeps-priorities (s .mailboxes) n) (getD (s .messages .key) g 0) 0) (c .0) ∙ cond-yes (keeps-priorities (s .mailboxes) b) _ _ keeps)

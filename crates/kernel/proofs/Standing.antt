@@ -130,7 +130,7 @@ module _ (s : State) where
 
   module _ (H : Sound message-limit message-chains (s .messages .link)) where
     -- Whatever stands in a mailbox is a message, and names it.
-    pub in-mailbox : (b : ℕ) {g : ℕ} → In g (abs s .rows (mailbox b) .messages) → (mailbox-of s g ≡ b) × T (valid (message g))
+    pub in-mailbox : (b : ℕ) {g : ℕ} → In g (abs s .rows (mailbox b) .messages) → (mailbox-of (s .messages .link) g ≡ b) × T (valid (message g))
     unfolding messages-in mailbox-of
     in-mailbox b {g} i =
         let j : In g (getD (message-lists s) b []) = rw (messages-are b (in-valid-mailbox b i)) at i in
@@ -145,8 +145,8 @@ module _ (s : State) where
         in-named : (g b : ℕ) → named-mailbox (abs s .rows (message g)) ≡ some b → In g (abs s .rows (mailbox b) .messages)
         in-named g b = row-cases s (message g) (λ x. named-mailbox x ≡ some b → In g (abs s .rows (mailbox b) .messages))
             (λ v e.
-            let n = named-number (mailbox-of s g) b e in
-            let h : mailbox-of s g ≤ message-chains = stands-within H g in
+            let n = named-number (mailbox-of (s .messages .link) g) b e in
+            let h : mailbox-of (s .messages .link) g ≤ message-chains = stands-within H g in
             let w : T (valid (mailbox b)) = let z = n .0 in let l = n .1 in in-range 1 mailbox-limit b (omega arith) (omega arith) in
             rw (messages-are b w) (stands-there g b (message-lists s) (n .0) (within-range 1 mailbox-limit b w .0)))
             (λ n e. absurd (Option·none-ne-some b e))

@@ -13,7 +13,8 @@ use Rattle.parts.specs.Chains.{task-chains, message-chains}
 use Rattle.kernel.specs.declared.State.{State}
 use Rattle.kernel.specs.Meaning.{abs, queue-at}
 
--- The arrays have the sizes that the record's type says: this holds of every record.
+-- The sizes that the record's type gives its arrays: they hold of every record, and stand here so that whoever has a sound record has them. Those of the links stand in `chain.Sound`; the rings'
+-- words need none.
 pub record Sizes (s : State) : Type 0 where
   pub tasks : length (s .tasks) ≡ 33
   pub queues : length (s .queues) ≡ 17
@@ -21,14 +22,13 @@ pub record Sizes (s : State) : Type 0 where
   pub task-keys : length (s .waiting .key) ≡ key-cells
   pub message-keys : length (s .messages .key) ≡ key-cells
 
--- "Sound" is document 01's word.
+-- "Sound" is document 01's word. The first fields say that rows can be read from the record, the last that they are as they should be.
 pub record Sound (s : State) : Type 0 where
   pub sizes : Sizes s
-  -- A chain is followed from its head for at most 32 tasks, or 64 messages; one that is longer, or comes round, isn't sound. No task stands in two chains, or
-  -- twice in one, and no message does.
+  -- Each chain ends, after 32 tasks or 64 messages at the latest, and has only numbers of its kind; no number stands in two places.
   pub waiting : chain.Sound task-limit task-chains (s .waiting .link)
   pub messages : chain.Sound message-limit message-chains (s .messages .link)
-  -- Numbers are in range: those of a defined queue's ring.
+  -- The ring of a queue that is defined has its numbers in range.
   pub rings : (q : ℕ) → T (valid (queue q)) → T (queue-at s q .defined) → InRange (queue-at s q .ring)
-  -- All other sentences, over rows.
+  -- All the other sentences.
   pub well-formed : WellFormed (abs s)

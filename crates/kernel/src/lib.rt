@@ -24,8 +24,8 @@ const TASK_CELLS: usize = 33;
 
 const OBJECT_CELLS: usize = 17;
 
-// Cell n of each array belongs to number n; cell 0 is nobody's and never counts. A task's record is its cells in `tasks` and `waiting`, a message's those in
-// `messages`.
+// Cell n of `tasks`, `queues`, `mailboxes` and of the keys belongs to number n, and so do the links up to the last number; behind them stand the
+// heads of the chains. Cell 0 is nobody's. So a task's record is its cells in `tasks` and `waiting`, and a message's its cells in `messages`.
 pub struct State {
     pub counter: u32,
     pub tasks: [Task; TASK_CELLS],
@@ -37,7 +37,7 @@ pub struct State {
     pub messages: Chains,
 }
 
-// The key of a number.
+// The key of a number. It is a function because `self.waiting.key[t]`, an element of a field of a field, isn't covered by the prover.
 fn key_of(key: &[u8; KEY_CELLS], number: usize) -> u8
     requires { ⌜ number < 65 ⌝ }
     ensures { λ r. ⌜ r ≡ getD (now (key .entry)) number 0 ⌝ }

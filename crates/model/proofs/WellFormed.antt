@@ -16,8 +16,8 @@ use Rattle.model.specs.Calls.{Call, view-of}
 use Rattle.model.specs.Waits.{Wait, NoWait, Sending, Receiving, AtMailbox}
 use Rattle.model.specs.Errors.{refused}
 use Rattle.model.specs.Step.{step, program}
-use Rattle.model.specs.Isolation.{WaitsAt, QueuedAt}
-use Rattle.model.specs.WellFormed.{WaitQueue, senders-of, receivers-of, waiters-of, object-of, standing-in, by-priority, wait-queue, named-mailbox, WellFormedRows, WellFormed, KeptWellFormed, EmptyWellFormed, WellFormedLinked}
+use Rattle.model.specs.Isolation.{WaitsAt, QueuedAt, WellFormedLinked}
+use Rattle.model.specs.WellFormed.{WaitQueue, senders-of, receivers-of, waiters-of, object-of, standing-in, by-priority, wait-queue, named-mailbox, WellFormedRows, WellFormed, KeptWellFormed, EmptyWellFormed}
 use Rattle.model.proofs.Step.{step-tick, step-call, run-refused, run-accepted}
 use Rattle.model.proofs.Accepted.{passes, accepted}
 use Rattle.model.proofs.KeptCalls.{Valid, kept-accepted}

@@ -12,6 +12,7 @@ use Rattle.model.specs.Rows.{Key, task, suspension, queue, mailbox, mess
 use Rattle.model.specs.Calls.{Call, names}
 use Rattle.model.specs.Waits.{Wait, NoWait, Sending, Receiving, AtMailbox}
 use Rattle.model.specs.Step.{step}
+use Rattle.model.specs.WellFormed.{WellFormed}
 
 -- ── What is used of a sound state: whatever stands in an object names that object ──
 
@@ -30,6 +31,10 @@ pub record Linked (m : Program.Rows Row) : Type 0 where
   pub receivers : (q : ℕ) → Each (λ t. WaitsAt (queue q) (m (task t) .wait)) (m (queue q) .receivers)
   pub waiters : (b : ℕ) → Each (λ t. WaitsAt (mailbox b) (m (task t) .wait)) (m (mailbox b) .waiters)
   pub messages : (b : ℕ) → Each (λ g. QueuedAt b (m (message g))) (m (mailbox b) .messages)
+
+-- A well-formed state is linked, so a sound record is.
+abbrev pub WellFormedLinked : Type 0
+WellFormedLinked = (m : Model) → WellFormed m → Linked (m .rows)
 
 -- ── A carrier's things. S says which rows are its own ──
 

@@ -10,7 +10,7 @@ pub mod DataQueues
 pub mod Mailboxes
 pub mod Tasks
 pub mod Step
+pub mod WellFormed
 pub mod Refusals
 pub mod Isolation
 pub mod SixteenRuns
-pub mod WellFormed

@@ -32,6 +32,10 @@ priority-limit = 16
 abbrev pub tmout-limit : ℕ
 tmout-limit = 2147483646
 
+-- The latest end tick of a sound record, in ticks from now.
+abbrev pub end-limit : ℕ
+end-limit = 2147483646
+
 -- The tick counter counts modulo this number.
 abbrev pub counter-span : ℕ
 counter-span = 4294967296

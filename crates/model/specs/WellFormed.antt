@@ -1,4 +1,5 @@
--- Document 01, "A sound record": its sentences, over rows. What a record must be so that it has such rows (chains that end, rings in range) stands with the record.
+-- Document 01, "A sound record": its sentences, over rows. "Well-formed" is our word for what rows can show of a sound record. What the record must be beside that, so that rows can be read
+-- from it (chains that end, rings in range), stands with the record.
 use mathlib.Core.Path.{_≡_}
 use mathlib.Core.Bool.{Bool, true, false, not, cond}
 use mathlib.Core.List.{List, [], map}
@@ -8,13 +9,12 @@ use lib.Dec.{T, eqb}
 use lib.ListN.{length}
 use Rattle.lists.specs.Lists.{empty, InOrder, StandsWhereNamed}
 use Rattle.rows.specs.Program as Program
-use Rattle.model.specs.Sizes.{capacity-limit, priority-limit, tmout-limit, counter-span}
+use Rattle.model.specs.Sizes.{capacity-limit, priority-limit, end-limit, counter-span}
 use Rattle.model.specs.Rows.{Key, task, suspension, queue, mailbox, message, valid, Row, TaskRow, QueueRow, MailboxRow, MessageRow, Model, senders-by-priority, waiters-by-priority, messages-by-priority, nothing, empty-state}
 use Rattle.model.specs.Codes.{Code, E-OK, E-SYS, E-PAR, E-ID, E-CTX, E-ILUSE, E-OBJ, E-NOEXS, E-QOVR, E-RLWAI, E-TMOUT, E-DLT}
 use Rattle.model.specs.Calls.{Call}
 use Rattle.model.specs.Waits.{Wait, NoWait, Sending, Receiving, AtMailbox, End, Never, At, wait-end}
 use Rattle.model.specs.Step.{step}
-use Rattle.model.specs.Isolation.{Linked}
 
 -- ── Wait queues ──
 
@@ -54,14 +54,14 @@ named-mailbox x = cond (eqb (x .queued-in) 0) none (some (x .queued-in))
 
 -- ── A task by itself ──
 
--- Numbers are in range: the object that a wait names.
+-- The object that a wait names has a valid number ("in range").
 abbrev pub ObjectInRange : Wait → Type 0
 ObjectInRange NoWait = Unit
 ObjectInRange (Sending q end word) = T (valid (queue q))
 ObjectInRange (Receiving q end) = T (valid (queue q))
 ObjectInRange (AtMailbox b end) = T (valid (mailbox b))
 
--- A stored code is that of a wait that ended, or E_OK: 0, -49, -50 or -51.
+-- The codes that may be stored with a task: E_OK, and those of a wait that didn't succeed.
 abbrev pub ends-a-wait : Code → Bool
 ends-a-wait E-OK = true
 ends-a-wait E-SYS = false
@@ -76,76 +76,77 @@ ends-a-wait E-RLWAI = true
 ends-a-wait E-TMOUT = true
 ends-a-wait E-DLT = true
 
--- How many ticks bring the counter to this tick, modulo the counter's span.
+-- How many ticks bring the counter from where it is to this tick.
 abbrev pub ticks-left : ℕ → ℕ → ℕ
 ticks-left counter tick = (tick + (counter-span - counter)) % counter-span
 
--- An end tick is from `soonest` to 2,147,483,646 ticks away.
+-- The tick is a number of the counter's, and lies so many ticks ahead: `soonest` of them at least.
 pub record TickAhead (counter soonest tick : ℕ) : Type 0 where
   pub in-range : tick < counter-span
   pub not-sooner : soonest ≤ ticks-left counter tick
-  pub not-later : ticks-left counter tick ≤ tmout-limit
+  pub not-later : ticks-left counter tick ≤ end-limit
 
 abbrev pub EndAhead : ℕ → ℕ → End → Type 0
 EndAhead counter soonest Never = Unit
 EndAhead counter soonest (At tick) = TickAhead counter soonest tick
 
 pub record TaskWellFormed (counter soonest : ℕ) (x : TaskRow) : Type 0 where
-  -- An undefined task has no wait.
+  -- Whatever isn't defined doesn't wait.
   pub undefined : T (not (x .defined)) → x .wait ≡ NoWait
-  -- Numbers are in range.
+  -- Priority and object are in range.
   pub priority-in-range : T (x .defined) → (1 ≤ x .priority) × (x .priority ≤ priority-limit)
   pub object-in-range : ObjectInRange (x .wait)
-  -- A stored code is one of four.
+  -- The stored code.
   pub code : T (ends-a-wait (x .code))
-  -- An end tick is 1 to 2,147,483,646 ticks away.
+  -- The end tick, where there is one, is ahead and not too far.
   pub end : EndAhead counter soonest (wait-end (x .wait))
 
 -- ── A data queue by itself ──
 
 pub record QueueWellFormed (x : QueueRow) : Type 0 where
-  -- An undefined object has empty chains and no words.
+  -- At a queue that isn't defined nobody waits, and nothing is stored in it.
   pub undefined : T (not (x .defined)) → (x .words ≡ []) × (x .senders ≡ []) × (x .receivers ≡ [])
-  -- Numbers and attributes are in range.
+  -- Attribute and capacity are in range.
   pub attribute-in-range : x .attribute ≤ 1
   pub capacity-in-range : x .capacity ≤ capacity-limit
-  -- The stored count is at most the capacity.
+  -- What is stored fits.
   pub count : length (x .words) ≤ x .capacity
-  -- Senders wait only at a full queue with no receiver.
+  -- Where a sender waits there is no room, and nobody to take its word.
   pub senders : T (not (empty (x .senders))) → (length (x .words) ≡ x .capacity) × (x .receivers ≡ [])
-  -- Receivers wait only at an empty queue with no sender.
+  -- Where a receiver waits there is no word to be had, from the store or from a sender.
   pub receivers : T (not (empty (x .receivers))) → (x .words ≡ []) × (x .senders ≡ [])
 
 -- ── A mailbox by itself ──
 
 pub record MailboxWellFormed (x : MailboxRow) : Type 0 where
-  -- An undefined object has empty chains.
+  -- At a mailbox that isn't defined nobody waits, and no message is queued in it.
   pub undefined : T (not (x .defined)) → (x .waiters ≡ []) × (x .messages ≡ [])
-  -- Numbers and attributes are in range; the highest message priority is kept with attribute 2 or 3 alone.
+  -- The attribute is in range, and with attribute 2 or 3 the highest message priority. Without, the latter isn't kept, and nothing is asked of it.
   pub attribute-in-range : x .attribute ≤ 3
   pub highest-in-range : T (messages-by-priority (x .attribute)) → (1 ≤ x .highest) × (x .highest ≤ priority-limit)
-  -- Tasks wait only at an empty mailbox.
+  -- Where a task waits no message is queued.
   pub waiters : T (not (empty (x .waiters))) → x .messages ≡ []
 
 -- ── All rows ──
 
 -- `soonest` says for each task how many ticks its end tick is away at least. It is 1; within a tick it is 0 for the tasks whose turn is still to come.
 pub record WellFormedRows (counter : ℕ) (soonest : ℕ → ℕ) (m : Program.Rows Row) : Type 0 where
-  -- Numbers are in range: nothing stands beyond the limits.
-  pub in-range : (k : Key) → T (not (valid k)) → m k ≡ nothing k
-  pub tasks : (t : ℕ) → TaskWellFormed counter (soonest t) (m (task t))
-  -- An undefined task has no suspension.
-  pub suspensions : (t : ℕ) → T (m (suspension t)) → T (m (task t) .defined)
+  -- Whoever waits stands in the wait queue that its wait names, once and in no other, and nobody else stands in one.
+  pub waiting : StandsWhereNamed (standing-in m) (λ t. wait-queue (m (task t) .wait))
+  -- The same of messages and the mailboxes that they are queued in.
+  pub queued : StandsWhereNamed (λ b. m (mailbox b) .messages) (λ g. named-mailbox (m (message g)))
+  -- In a wait queue by priority the numbers never fall.
+  pub waiting-in-order : (k : WaitQueue) → T (by-priority m k) → InOrder 1 priority-limit (map (λ t. m (task t) .priority) (standing-in m k))
+  -- Nor in a message queue by priority; and each of them is from 1 to the mailbox's highest.
+  pub queued-in-order : (b : ℕ) → T (messages-by-priority (m (mailbox b) .attribute)) → InOrder 1 (m (mailbox b) .highest) (map (λ g. m (message g) .priority) (m (mailbox b) .messages))
+  -- Each object and each task by itself.
   pub queues : (q : ℕ) → QueueWellFormed (m (queue q))
   pub mailboxes : (b : ℕ) → MailboxWellFormed (m (mailbox b))
-  -- Every waiting task stands once in the wait queue of the object and kind that it names, and nowhere else; wait queues hold no other task.
-  pub waiting : StandsWhereNamed (standing-in m) (λ t. wait-queue (m (task t) .wait))
-  -- A wait queue by priority has no larger number before a smaller.
-  pub waiting-in-order : (k : WaitQueue) → T (by-priority m k) → InOrder 1 priority-limit (map (λ t. m (task t) .priority) (standing-in m k))
-  -- A message stands in at most one mailbox, once.
-  pub queued : StandsWhereNamed (λ b. m (mailbox b) .messages) (λ g. named-mailbox (m (message g)))
-  -- A message queue by priority has no larger number before a smaller, and each kept priority is 1 to its mailbox's highest.
-  pub queued-in-order : (b : ℕ) → T (messages-by-priority (m (mailbox b) .attribute)) → InOrder 1 (m (mailbox b) .highest) (map (λ g. m (message g) .priority) (m (mailbox b) .messages))
+  pub tasks : (t : ℕ) → TaskWellFormed counter (soonest t) (m (task t))
+  -- Only a task that is defined is suspended.
+  pub suspensions : (t : ℕ) → T (m (suspension t)) → T (m (task t) .defined)
+  -- Beyond the limits of its kind nothing has a number.
+  pub in-range : (k : Key) → T (not (valid k)) → m k ≡ nothing k
 
 pub record WellFormed (m : Model) : Type 0 where
   pub counter-in-range : m .environment .counter < counter-span
@@ -159,7 +160,3 @@ KeptWellFormed = (m : Model) (c : Call) → WellFormed m → WellFormed (step m 
 
 abbrev pub EmptyWellFormed : Type 0
 EmptyWellFormed = (counter : ℕ) → counter < counter-span → WellFormed (empty-state counter)
-
--- It is all that demand 3 asks of the state.
-abbrev pub WellFormedLinked : Type 0
-WellFormedLinked = (m : Model) → WellFormed m → Linked (m .rows)
