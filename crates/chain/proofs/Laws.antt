@@ -1,12 +1,13 @@
--- Laws for callers: what a list has, where numbers stand after each function, where a newcomer is put. By the changed list alone.
+-- Laws for callers: what a list has, where numbers stand after each function, where a newcomer is put, the key of a free number. By the changed list alone.
 use mathlib.Core.Path.{_≡_, refl, sym, ap, _∙_}
 use mathlib.Core.Bool.{Bool, cond}
-use mathlib.Core.List.{List, [], _∷_, _++_, tail, headD, List·Memᴰ as In, List·Memᴰ·not-nil}
+use mathlib.Core.List.{List, [], _∷_, _++_, tail, headD, List·Memᴰ as In, List·Memᴰ·head as here, List·Memᴰ·tail as there, List·Memᴰ·not-nil}
 use mathlib.Core.Logic.{_≢_, ⊎-elim}
 use Prim.Native.Nat.{ℕ, suc, _<_, _≤_}
 use native.Mathlib.Omega.{arith}
 use lib.Dec.{eqb}
-use lib.ListN.{length, getD, length-map}
+use lib.ListN.{length, getD, set, length-map}
+use lib.Seq.{getD-set-other}
 use Rattle.lists.specs.Lists.{Once, remove-at, ahead, without}
 use Rattle.lists.specs.Tests.{Whether, holds, fails}
 use Rattle.lists.proofs.Tests.{is-eqb}
@@ -15,11 +16,11 @@ use Rattle.lists.proofs.Once.{once-removed}
 use Rattle.lists.proofs.Reading.{first-at}
 use Rattle.lists.proofs.Changes.{remove-first, length-insert, insert-at-end}
 use Rattle.lists.proofs.Places.{at-ahead, ahead-in, passed-within}
-use Rattle.chain.specs.Table.{lists, chain-of, keys-of}
+use Rattle.chain.specs.Table.{lists, Sound, chain-of, keys-of}
 use Rattle.chain.specs.Changes.{HasChain, Changed, Insertable, Inserted, Popped, Removed}
 use Rattle.chain.proofs.Chain.{chain-once, short, in-range}
 use Rattle.chain.proofs.Table.{member-range}
-use Rattle.chain.proofs.Standing.{stands-in, stands-there, stands-nowhere, new-list, standing-new, standing-none, standing-same}
+use Rattle.chain.proofs.Standing.{stands-in, stands-there, stands-nowhere, stands-free, new-list, standing-new, standing-none, standing-same}
 use Rattle.chain.proofs.Changes.{chain-is}
 
 -- A chain has each number once, and only numbers of the table.
@@ -122,3 +123,14 @@ module _ {n c k x limit : ℕ} {s key s' : List ℕ} {place : ℕ} (r : Inserted
       let h : suc (length l) ≤ n = rw (new-list a (r .changed), length-insert) at (list-short b) in
       let p : place ≤ length l = rw (r .place-is) (simp length-map at (passed-within limit (keys-of key l))) in
       omega arith
+
+-- A new key for a number outside a list leaves the keys of the list.
+keys-other : (key : List ℕ) (x v : ℕ) (l : List ℕ) → (In x l → ⊥) → keys-of (set key x v) l ≡ keys-of key l
+unfolding keys-of
+keys-other key x v [] f = refl
+keys-other key x v (y ∷ l) f = cc (getD-set-other key x y v 0 (λ e. f (here (sym e))), keys-other key x v l (λ m. f (there m)))
+
+-- So the key of a number that stands nowhere may be set before it is put in.
+pub keys-of-free : {n c : ℕ} {s : List ℕ} → Sound n c s → (key : List ℕ) (x v : ℕ) → chain-of x (lists n c s) ≡ 0
+    → (k : ℕ) → keys-of (set key x v) (getD (lists n c s) k []) ≡ keys-of key (getD (lists n c s) k [])
+keys-of-free {n} {c} {s} H key x v e k = keys-other key x v (getD (lists n c s) k []) (stands-free H x e k)

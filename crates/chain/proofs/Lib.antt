@@ -9,4 +9,3 @@ pub mod Changes
 pub mod Search
 pub mod Marks
 pub mod Laws
-pub mod Order

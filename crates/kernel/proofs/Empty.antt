@@ -20,10 +20,11 @@ use Rattle.model.proofs.WellFormed.{empty-well-formed}
 use Rattle.parts.specs.Chains.{task-chains, message-chains, chain-number, tasks-in, messages-in}
 use Rattle.parts.specs.declared.Task.{Task}
 use Rattle.parts.specs.declared.Queue.{Queue}
+use Rattle.model.proofs.Tests.{from-within}
 use Rattle.kernel.specs.declared.State.{State}
 use Rattle.kernel.specs.Meaning.{no-task-cell, no-mailbox-cell, task-at, queue-at, mailbox-of, cells-of, abs}
 use Rattle.kernel.specs.Sound.{Sound}
-use Rattle.kernel.proofs.Rows.{within-range, cond-cases}
+use Rattle.kernel.proofs.Rows.{cond-cases}
 
 -- A data queue that isn't defined, with this ring.
 abbrev pub undefined-queue : Ring → Queue
@@ -54,7 +55,7 @@ module _ (s : State) (r : Ring) (empty : Empty 0 r) (b : Blank r s) where
   no-task t = rw (b .tasks) (all-same no-task-cell 33 t)
 
   no-queue : (q : ℕ) → T (valid (queue q)) → queue-at s q ≡ undefined-queue r
-  no-queue q v = let range = within-range 1 queue-limit q v in rw (b .queues) (getD-replicate 17 q (undefined-queue r) _ (omega arith))
+  no-queue q v = let range = from-within 1 queue-limit q v in rw (b .queues) (getD-replicate 17 q (undefined-queue r) _ (omega arith))
 
   cells-blank : (k : Key) → T (valid k) → cells-of s k ≡ nothing k
   unfolding one-of

@@ -22,11 +22,12 @@ use Rattle.parts.specs.Mailboxes.{kept-attribute, mailbox-row}
 use Rattle.parts.specs.declared.Task.{Task}
 use Rattle.parts.specs.declared.Queue.{Queue}
 use Rattle.parts.specs.declared.Mailbox.{Mailbox}
+use Rattle.model.proofs.Tests.{to-within}
 use Rattle.kernel.specs.declared.State.{State}
 use Rattle.kernel.specs.Meaning.{task-at, queue-at, mailbox-at, mailbox-of, keeps-priorities, cells-of, abs}
 use Rattle.kernel.specs.Sound.{Sound}
 use Rattle.kernel.specs.Equal.{SameTask, SameQueue, SameMailbox, SameState, EqualStates}
-use Rattle.kernel.proofs.Rows.{passes-or-not, in-range, row-is}
+use Rattle.kernel.proofs.Rows.{passes-or-not, row-is}
 use Rattle.kernel.proofs.Standing.{message-lists}
 use Rattle.kernel.proofs.Parts.{Parts, sound-parts}
 
@@ -95,7 +96,7 @@ module _ (s u : State) (S : Sound s) (U : Sound u) (e : SameState s u) where
       at zero h = list-none message-limit message-chains (s .messages .link) ∙ sym (list-none message-limit message-chains (u .messages .link))
       at (suc b) h =
           let n = length-lists message-limit message-chains (s .messages .link) in
-          e .message-queues (suc b) (in-range 1 mailbox-limit (suc b) (omega arith) (omega arith))
+          e .message-queues (suc b) (to-within 1 mailbox-limit (suc b) (omega arith) (omega arith))
 
   mailbox-of-same : (g : ℕ) → mailbox-of (s .messages .link) g ≡ mailbox-of (u .messages .link) g
   unfolding mailbox-of

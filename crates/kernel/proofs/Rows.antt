@@ -1,11 +1,8 @@
 -- What is read of a record's rows: its cells where the number is valid, and nothing elsewhere. By the decision whether it is.
 use mathlib.Core.Path.{_≡_}
 use mathlib.Core.Bool.{Bool, true, false, not, cond}
-use Prim.Native.Nat.{ℕ, _≤_}
-use lib.Dec.{T, leb, leb→le, le→leb}
-use mir.Facts.{and-yes, yes-and}
+use lib.Dec.{T}
 use Rattle.model.proofs.Choices.{cond-yes}
-use Rattle.model.specs.Sizes.{within}
 use Rattle.model.specs.Rows.{Key, valid, Row, nothing}
 use Rattle.kernel.specs.declared.State.{State}
 use Rattle.kernel.specs.Meaning.{cells-of, abs}
@@ -19,12 +16,6 @@ passes-or-not false y n = n tt
 pub cond-cases : {X : Type 0} (P : X → Type 0) (b : Bool) {x y : X} → (T b → P x) → (T (not b) → P y) → P (cond b x y)
 cond-cases P true p q = p tt
 cond-cases P false p q = q tt
-
-pub within-range : (low high n : ℕ) → T (within low high n) → (low ≤ n) × (n ≤ high)
-within-range low high n t = let b = and-yes (leb low n) (leb n high) t in (leb→le low n (b .0), leb→le n high (b .1))
-
-pub in-range : (low high n : ℕ) → low ≤ n → n ≤ high → T (within low high n)
-in-range low high n l h = yes-and (leb low n) (leb n high) (le→leb low n l) (le→leb n high h)
 
 -- The row of a valid number is what its cells say, and what holds of that and of an undefined row holds of every row.
 module _ (s : State) (k : Key) where

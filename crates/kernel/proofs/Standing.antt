@@ -22,9 +22,10 @@ use Rattle.parts.specs.Chains.{task-chains, message-chains, chain-number, wait-
 use Rattle.model.specs.declared.Wait.{Wait}
 use Rattle.model.specs.declared.Wait.the-variants.{NoWait, Sending, Receiving, AtMailbox}
 use Rattle.parts.specs.Tasks.{WaitSound}
+use Rattle.model.proofs.Tests.{from-within, to-within}
 use Rattle.kernel.specs.declared.State.{State}
 use Rattle.kernel.specs.Meaning.{task-at, mailbox-of, abs}
-use Rattle.kernel.proofs.Rows.{within-range, in-range, row-is, row-cases}
+use Rattle.kernel.proofs.Rows.{row-is, row-cases}
 use Rattle.kernel.proofs.Chains.{chain-range, chain-owner, named-chain, named-queue}
 
 -- The lists of the two tables.
@@ -78,7 +79,7 @@ module _ (s : State) where
     in-chain k {t} i =
         let j : In t (getD (task-lists s) (chain-number k) []) = rw (standing-is k (in-valid-object k i)) at i in
         let r = member-range H (chain-number k) j in
-        (stands-in H (chain-number k) j, in-range 1 task-limit t (r .0) (r .1))
+        (stands-in H (chain-number k) j, to-within 1 task-limit t (r .0) (r .1))
 
     pub in-queue : (k : WaitQueue) {t : ℕ} → T (valid (object-of k)) → chain-of t (task-lists s) ≡ chain-number k → In t (standing-in (abs s .rows) k)
     unfolding tasks-in
@@ -114,17 +115,17 @@ module _ (s : State) where
         → (t : ℕ) → T (valid (task t)) → wait-chain (task-at s t .wait) ≡ chain-of t (task-lists s)
     stands-from S t v = go (task-at s t .wait) (ap (λ (x : TaskRow). wait-queue (x .wait)) (row-is s (task t) v))
       where
-        in-its-queue : (w : Wait) (k : WaitQueue) → wait-queue (abs s .rows (task t) .wait) ≡ some k → chain-of t (task-lists s) ≡ chain-number k
-        in-its-queue w k e = in-chain k (S .in-named t k e) .0
+        in-its-queue : (k : WaitQueue) → wait-queue (abs s .rows (task t) .wait) ≡ some k → chain-of t (task-lists s) ≡ chain-number k
+        in-its-queue k e = in-chain k (S .in-named t k e) .0
 
         go : (w : Wait) → wait-queue (abs s .rows (task t) .wait) ≡ wait-queue w → wait-chain w ≡ chain-of t (task-lists s)
         go NoWait e = sym (stands-nowhere t (task-lists s) (λ n i.
             let r = chain-has H n i in
             let o = chain-owner n (r .0) (r .1) in
             Option·none-ne-some (o .owner) (sym e ∙ S .no-other t (o .owner) (in-queue (o .owner) (o .in-range) (stands-in H n i ∙ sym (o .chain-is))))))
-        go (Sending q end word) e = sym (in-its-queue (Sending q end word) (senders-of q) e)
-        go (Receiving q end) e = sym (in-its-queue (Receiving q end) (receivers-of q) e)
-        go (AtMailbox b end) e = sym (in-its-queue (AtMailbox b end) (waiters-of b) e)
+        go (Sending q end word) e = sym (in-its-queue (senders-of q) e)
+        go (Receiving q end) e = sym (in-its-queue (receivers-of q) e)
+        go (AtMailbox b end) e = sym (in-its-queue (waiters-of b) e)
 
   -- ── Messages ──
 
@@ -135,7 +136,7 @@ module _ (s : State) where
     in-mailbox b {g} i =
         let j : In g (getD (message-lists s) b []) = rw (messages-are b (in-valid-mailbox b i)) at i in
         let r = member-range H b j in
-        (stands-in H b j, in-range 1 message-limit g (r .0) (r .1))
+        (stands-in H b j, to-within 1 message-limit g (r .0) (r .1))
 
     -- Messages stand where they name, since their rows are read from the chains.
     pub queued-from : StandsWhereNamed (λ b. abs s .rows (mailbox b) .messages) (λ g. named-mailbox (abs s .rows (message g)))
@@ -147,15 +148,15 @@ module _ (s : State) where
             (λ v e.
             let n = named-number (mailbox-of (s .messages .link) g) b e in
             let h : mailbox-of (s .messages .link) g ≤ message-chains = stands-within H g in
-            let w : T (valid (mailbox b)) = let z = n .0 in let l = n .1 in in-range 1 mailbox-limit b (omega arith) (omega arith) in
-            rw (messages-are b w) (stands-there g b (message-lists s) (n .0) (within-range 1 mailbox-limit b w .0)))
+            let w : T (valid (mailbox b)) = let z = n .0 in let l = n .1 in to-within 1 mailbox-limit b (omega arith) (omega arith) in
+            rw (messages-are b w) (stands-there g b (message-lists s) (n .0) (from-within 1 mailbox-limit b w .0)))
             (λ n e. absurd (Option·none-ne-some b e))
 
         no-other : (g b : ℕ) → In g (abs s .rows (mailbox b) .messages) → named-mailbox (abs s .rows (message g)) ≡ some b
         no-other g b i =
             let c = in-mailbox b i in
-            let w = within-range 1 mailbox-limit b (in-valid-mailbox b i) in
+            let w = from-within 1 mailbox-limit b (in-valid-mailbox b i) in
             ap (λ (x : MessageRow). named-mailbox x) (row-is s (message g) (c .1)) ∙ (ap (λ n. cond (eqb n 0) none (some n)) (c .0) ∙ some-number b (w .0))
 
         no-twice : (b : ℕ) → Once (abs s .rows (mailbox b) .messages)
-        no-twice b = row-cases s (mailbox b) (λ x. Once (x .messages)) (λ v. let r = within-range 1 mailbox-limit b v in list-once (record { sound = H; low = r .0; high = r .1 })) (λ n. lists.nothing)
+        no-twice b = row-cases s (mailbox b) (λ x. Once (x .messages)) (λ v. let r = from-within 1 mailbox-limit b v in list-once (record { sound = H; low = r .0; high = r .1 })) (λ n. lists.nothing)

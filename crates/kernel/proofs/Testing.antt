@@ -17,10 +17,10 @@ use Rattle.parts.specs.Chains.{task-chains, message-chains}
 use Rattle.parts.specs.Tasks.{TaskSound}
 use Rattle.parts.specs.Queues.{QueueTestable}
 use Rattle.parts.specs.Mailboxes.{MailboxTestable}
+use Rattle.model.proofs.Tests.{from-within}
 use Rattle.kernel.specs.declared.State.{State}
 use Rattle.kernel.specs.Meaning.{task-at}
 use Rattle.kernel.specs.Sound.{Sizes}
-use Rattle.kernel.proofs.Rows.{within-range}
 use Rattle.kernel.proofs.Standing.{task-lists}
 use Rattle.kernel.proofs.Parts.{TaskAt, QueueAt, MailboxAt, Parts}
 
@@ -75,7 +75,7 @@ tested-parts w f g = record {
   counter = w .counter;
   waiting = w .waiting;
   messages = w .messages;
-  tasks = λ t v. let r = within-range 1 task-limit t v in f .each t (r .0) (omega arith);
-  queues = λ q v. let r = within-range 1 queue-limit q v in g .each q (r .0) (omega arith) .0;
-  mailboxes = λ b v. let r = within-range 1 mailbox-limit b v in g .each b (r .0) (omega arith) .1;
+  tasks = λ t v. let r = from-within 1 task-limit t v in f .each t (r .0) (omega arith);
+  queues = λ q v. let r = from-within 1 queue-limit q v in g .each q (r .0) (omega arith) .0;
+  mailboxes = λ b v. let r = from-within 1 mailbox-limit b v in g .each b (r .0) (omega arith) .1;
 }

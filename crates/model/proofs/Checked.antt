@@ -4,10 +4,10 @@ use mathlib.Core.Bool.{not, _&&_, _||_}
 use mathlib.Core.List.{[], _∷_}
 use Prim.Native.Nat.{ℕ, _≤_, _<_}
 use native.Mathlib.Omega.{arith}
-use lib.Dec.{T, eqb, leb, ltb, leb→le, nltb→le}
+use lib.Dec.{T, eqb, ltb, nltb→le}
 use lib.IntN.{ℤ, pos, negsuc}
 use lib.Signed.{ltZ}
-use mir.Facts.{T-not-not, and-yes, yes-and, eqb-no}
+use mir.Facts.{T-not-not, yes-and, eqb-no}
 use Rattle.lists.specs.Lists.{empty}
 use Rattle.model.specs.Sizes.{task-limit, capacity-limit, priority-limit, tmout-limit, counter-span, within}
 use Rattle.model.specs.Rows.{messages-by-priority}
@@ -15,11 +15,11 @@ use Rattle.model.specs.Calls.{Call, View, calls, creates, has-tmout, nam
 use Rattle.model.specs.Waits.{Wait, NoWait, Sending, Receiving, AtMailbox, able, end-of}
 use Rattle.model.specs.Errors.{caller-cannot-call, task-only, called-by-handler, tmout-outside, attribute-outside, capacity-outside, task-priority-outside, highest-outside, exists, missing, message-priority-outside, wrong-state, nothing-to-drop, is-zero, polls, would-wait}
 use Rattle.model.specs.WellFormed.{EndAhead}
-use Rattle.model.proofs.Tests.{neither-left, neither-right, not-both, not-both-left}
+use Rattle.model.proofs.Tests.{from-within, neither-left, neither-right, not-both, not-both-left}
 use Rattle.model.proofs.Accepted.{Passes}
 
 between : (low high n : ℕ) → T (not (not (within low high n))) → (low ≤ n) × (n ≤ high)
-between low high n t = let h = and-yes (leb low n) (leb n high) (T-not-not (within low high n) t) in (leb→le low n (h .0), leb→le n high (h .1))
+between low high n t = from-within low high n (T-not-not (within low high n) t)
 
 able-no-wait : (x : Wait) → T (able x) → x ≡ NoWait
 able-no-wait NoWait t = refl
@@ -27,7 +27,7 @@ able-no-wait (Sending q end word) t = absurd t
 able-no-wait (Receiving q end) t = absurd t
 able-no-wait (AtMailbox b end) t = absurd t
 
--- A wait that a tmout of 1 or more starts, or none ends, ends in time.
+-- The end of a wait that starts now, with a tmout of 1 or more or with none, is ahead and not too far.
 end-ahead : (counter : ℕ) (tmout : ℤ) → counter < counter-span → T (not (is-zero tmout)) → T (not (ltZ (pos tmout-limit) tmout)) → EndAhead counter 1 (end-of counter tmout)
 unfolding end-of
 end-ahead counter (pos n) inside some low =

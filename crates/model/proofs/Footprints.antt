@@ -4,8 +4,8 @@ use mathlib.Core.Bool.{true, not, _&&_}
 use mathlib.Core.List.{List, [], _∷_, headD}
 use Prim.Native.Nat.{ℕ, _≤_}
 use native.Mathlib.Omega.{arith}
-use lib.Dec.{T, T-not, eqb, leb, leb→le}
-use mir.Facts.{T-not-not, and-yes, yes-and}
+use lib.Dec.{T, T-not, eqb}
+use mir.Facts.{T-not-not, yes-and}
 use lib.ListN.{length}
 use Rattle.lists.specs.Lists.{Each, none, both, empty, one-of}
 use Rattle.lists.proofs.Each.{each-tail, each-head, each-append, each-insert, each-without}
@@ -26,7 +26,7 @@ use Rattle.model.specs.Step.{effects, effect, no-call, program}
 use Rattle.model.specs.Refusals.{NoError}
 use Rattle.model.specs.Isolation.{WaitsIn, QueuedIn}
 use Rattle.model.specs.declared.Answer.{Answer}
-use Rattle.model.proofs.Tests.{or-left}
+use Rattle.model.proofs.Tests.{from-within, or-left}
 use Rattle.model.proofs.Step.{numbered}
 use Rattle.model.proofs.Accepted.{Passes, passes, Accepted, accepted}
 
@@ -213,7 +213,7 @@ module _ (S : Key → Type 0) where
   -- Beyond the table a number is unknown.
   beyond : (n : ℕ) → length effects ≤ n → InFor n no-call
   unfolding effects unknown
-  beyond n h e v c r a p = let low = leb→le n call-limit (and-yes (leb 1 n) (leb n call-limit) (T-not-not (within 1 call-limit n) (p .step-0)) .1) in absurd (omega arith)
+  beyond n h e v c r a p = let known = from-within 1 call-limit n (T-not-not (within 1 call-limit n) (p .step-0)) in absurd (omega arith)
 
   pub in-effect : (e : Environment) (v : View) (c : Call) → ViewWithin v → Accepted S c → Passes v c → Within NamedIn S (AnswersNoError (c .number)) (effect e v c)
   unfolding effect

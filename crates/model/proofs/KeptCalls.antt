@@ -3,9 +3,9 @@ use mathlib.Core.Path.{_≡_, refl, sym, subst}
 use mathlib.Core.Bool.{Bool, true, false, not, cond}
 use Prim.Native.Nat.{ℕ, _≤_, _<_}
 use native.Mathlib.Omega.{arith}
-use lib.Dec.{T, leb, leb→le}
+use lib.Dec.{T}
 use lib.ListN.{length}
-use mir.Facts.{T-not-not, and-yes, yes-and}
+use mir.Facts.{T-not-not, yes-and}
 use Rattle.lists.specs.Lists.{empty, one-of}
 use Rattle.lists.proofs.Positions.{EachNumbered, _then_, at-number}
 use Rattle.rows.specs.Program as Program
@@ -20,7 +20,7 @@ use Rattle.model.specs.Mailboxes.{wait-for-message, receive-message, cre
 use Rattle.model.specs.Tasks.{define-task, rel-wai, sus-tsk, rsm-tsk, look, fetch}
 use Rattle.model.specs.Step.{effects, effect, no-call}
 use Rattle.model.specs.WellFormed.{EndAhead, WellFormedRows}
-use Rattle.model.proofs.Tests.{neither-left, or-left, only-left}
+use Rattle.model.proofs.Tests.{from-within, neither-left, or-left, only-left}
 use Rattle.model.proofs.Choices.{cond-yes}
 use Rattle.model.proofs.Step.{numbered}
 use Rattle.model.proofs.Accepted.{Passes, Accepted}
@@ -135,7 +135,7 @@ module _ (e : Environment) (c : Call) (inside : e .counter < counter-span) {m : 
   -- Beyond the table a number is unknown.
   beyond : (n : ℕ) → length effects ≤ n → KeptFor n no-call
   unfolding effects unknown
-  beyond n h a p = let low = leb→le n call-limit (and-yes (leb 1 n) (leb n call-limit) (T-not-not (within 1 call-limit n) (p .step-0)) .1) in absurd (omega arith)
+  beyond n h a p = let known = from-within 1 call-limit n (T-not-not (within 1 call-limit n) (p .step-0)) in absurd (omega arith)
 
   kept-effect : KeptFor (c .number) effect
   unfolding effect

@@ -4,8 +4,8 @@ use mathlib.Core.Bool.{Bool, true, false, not, cond}
 use Prim.Native.Nat.{ℕ, zero, suc, _+_, _%_, _<_, _≤_}
 use native.Mathlib.Decide.{ℕ-discrete, decLt}
 use native.Mathlib.Omega.{arith}
-use lib.Dec.{T, not-T, ltb, leb, leb→le, lt→ltb, nltb→le, ltb→lt}
-use mir.Facts.{eqb-no, no-ltb, and-yes}
+use lib.Dec.{T, not-T, ltb, lt→ltb, nltb→le, ltb→lt}
+use mir.Facts.{eqb-no, no-ltb}
 use Rattle.lists.specs.Lists.{ascending}
 use Rattle.rows.specs.Program as Program
 use Rattle.model.specs.Sizes.{task-limit, counter-span}
@@ -14,6 +14,7 @@ use Rattle.model.specs.Codes.{E-TMOUT}
 use Rattle.model.specs.Waits.{Wait, NoWait, Sending, Receiving, AtMailbox, End, Never, At, able, wait-end, due}
 use Rattle.model.specs.Tasks.{expire, tick}
 use Rattle.model.specs.WellFormed.{EndAhead, WellFormedRows, WellFormed}
+use Rattle.model.proofs.Tests.{from-within}
 use Rattle.model.proofs.Choices.{cond-no, cond-yes}
 use Rattle.model.proofs.After.{After, after-return, after-get, after-if, Kept}
 use Rattle.model.proofs.KeptTasks.{kept-end-wait}
@@ -36,7 +37,7 @@ with-ends w ends = record {
 
 -- A task beyond the limits has no wait.
 outside : (t : ℕ) → (1 ≤ t → t ≤ task-limit → ⊥) → T (not (valid (task t)))
-outside t f = not-T (valid (task t)) (λ h. let k = and-yes (leb 1 t) (leb t task-limit) h in f (leb→le 1 t (k .0)) (leb→le t task-limit (k .1)))
+outside t f = not-T (valid (task t)) (λ h. let k = from-within 1 task-limit t h in f (k .0) (k .1))
 
 outside-ends : {counter : ℕ} {soonest : ℕ → ℕ} {m : Program.Rows Row} → WellFormedRows counter soonest m
     → (later least t : ℕ) → T (not (valid (task t))) → EndAhead later least (wait-end (m (task t) .wait))

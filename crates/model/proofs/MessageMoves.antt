@@ -8,8 +8,8 @@ use mathlib.Core.Option.{some, none, Option·none-ne-some, Option·some-injectiv
 use Prim.Native.Nat.{ℕ, _≤_}
 use native.Mathlib.Decide.{ℕ-discrete}
 use native.Mathlib.Omega.{arith}
-use lib.Dec.{T, T-not, eqb, leb, leb→le}
-use mir.Facts.{and-yes, no-eqb}
+use lib.Dec.{T, T-not, eqb}
+use mir.Facts.{no-eqb}
 use Rattle.lists.specs.Lists.{empty, insert-at, passed, one-of, InOrder, no-key, StandsWhereNamed}
 use Rattle.lists.proofs.Members.{map-same}
 use Rattle.lists.proofs.Stands.{in-head, without-head, stands-leave, stands-join, stands-clear}
@@ -19,6 +19,7 @@ use Rattle.rows.proofs.Update.{update-same, update-other, update-cases}
 use Rattle.model.specs.Sizes.{mailbox-limit, priority-limit}
 use Rattle.model.specs.Rows.{Key, task, suspension, queue, mailbox, message, same-key, valid, Row, MailboxRow, MessageRow, messages-by-priority, free, with-messages}
 use Rattle.model.specs.WellFormed.{waiters-of, named-mailbox, MailboxWellFormed, WellFormedRows}
+use Rattle.model.proofs.Tests.{from-within}
 use Rattle.model.proofs.Choices.{cond-no, cond-both, cond-yes, cond-member, cond-no-member}
 use Rattle.model.proofs.Standing.{changed, message-cases}
 use Rattle.model.proofs.WaitMoves.{is-valid, in-order-with, in-order-without}
@@ -26,7 +27,7 @@ use Rattle.model.proofs.RowMoves.{with-message-rows, freed, own-message
 
 -- A mailbox's number isn't 0.
 names-mailbox : (b p : ℕ) → T (valid (mailbox b)) → named-mailbox (record { queued-in = b; priority = p }) ≡ some b
-names-mailbox b p t = cond-no (eqb b 0) none (some b) (no-eqb (λ (e : b ≡ 0). let h = leb→le 1 b (and-yes (leb 1 b) (leb b mailbox-limit) t .0) in omega arith))
+names-mailbox b p t = cond-no (eqb b 0) none (some b) (no-eqb (λ (e : b ≡ 0). let h = from-within 1 mailbox-limit b t in omega arith))
 
 -- ── One message ──
 

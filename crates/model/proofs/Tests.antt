@@ -1,6 +1,9 @@
 -- What a passed or failed test says of its parts, where the library has no such law: by cases on the first part.
 use mathlib.Core.Bool.{Bool, true, false, not, _&&_, _||_}
-use lib.Dec.{T}
+use Prim.Native.Nat.{ℕ, _≤_}
+use lib.Dec.{T, leb, leb→le, le→leb}
+use mir.Facts.{and-yes, yes-and}
+use Rattle.model.specs.Sizes.{within}
 
 -- The two halves of the library's `or-no`, which `search` can't take apart.
 pub neither-left : (a b : Bool) → T (not (a || b)) → T (not a)
@@ -24,6 +27,13 @@ not-both-left false b t u = tt
 pub or-left : (a b : Bool) → T a → T (a || b)
 or-left true b t = tt
 or-left false b t = absurd t
+
+-- A number within two limits, as a test and as two facts.
+pub from-within : (low high n : ℕ) → T (within low high n) → (low ≤ n) × (n ≤ high)
+from-within low high n t = let h = and-yes (leb low n) (leb n high) t in (leb→le low n (h .0), leb→le n high (h .1))
+
+pub to-within : (low high n : ℕ) → low ≤ n → n ≤ high → T (within low high n)
+to-within low high n l h = yes-and (leb low n) (leb n high) (le→leb low n l) (le→leb n high h)
 
 pub only-left : (b : Bool) → T (b || false) → T b
 only-left true t = tt

@@ -7,8 +7,8 @@ use borrow.Author.Needs.{needs}
 use borrow.Author.Tests.{not-false}
 use Rattle.lists.specs.Tests.{holds, fails}
 use Rattle.model.specs.Sizes.{task-limit, queue-limit, mailbox-limit}
+use Rattle.model.proofs.Tests.{to-within}
 use Rattle.kernel.specs.Sound.{Sizes}
-use Rattle.kernel.proofs.Rows.{in-range}
 use Rattle.kernel.proofs.Parts.{TaskAt, QueueAt, MailboxAt, sound-parts, parts-sound}
 use Rattle.kernel.proofs.Testing.{went-on, stopped, Below, below-none, below-more, Walked, Marked, queue-testable, mailbox-testable, task-tested, tested-parts}
 use Rattle.kernel.proofs.State.sound.Statement.{statement}
@@ -79,7 +79,7 @@ returns-3 c =
     let t = c .before .before .before .before .before .before .before .loop .t in
     let h = c .before .before .before .before .before .before .loop-test .taken in
     let tested = task-tested t (i .3) (c .before .before .key-of .ensures) (c .before .task-sound .ensures) in
-    fails (λ S. stopped tested (c .if3 .taken) (sound-parts _ S .tasks t (in-range 1 task-limit t (i .0) (omega arith))))
+    fails (λ S. stopped tested (c .if3 .taken) (sound-parts _ S .tasks t (to-within 1 task-limit t (i .0) (omega arith))))
 
 add-t : tie.Need-add-t Inv-loop μ-loop Inv-loop2 μ-loop2
 add-t c = let h = c .before .before .before .before .before .before .loop-test .taken in omega arith
@@ -119,7 +119,7 @@ returns-4 c =
     let n = c .before .before .before .before .before .before .before .loop2 .n in
     let i = c .before .before .before .before .before .before .before .loop2 .inv in
     let h = c .before .before .before .before .before .before .loop2-test .taken in
-    fails (λ S. stopped (c .before .queue-sound .ensures) (c .if4 .taken) (sound-parts _ S .queues n (in-range 1 queue-limit n (i .0) (omega arith))))
+    fails (λ S. stopped (c .before .queue-sound .ensures) (c .if4 .taken) (sound-parts _ S .queues n (to-within 1 queue-limit n (i .0) (omega arith))))
 
 mul-mailbox : tie.Need-mul-mailbox Inv-loop μ-loop Inv-loop2 μ-loop2
 mul-mailbox c = let h = c .before .before .before .before .before .before .loop2-test .taken in omega arith
@@ -138,7 +138,7 @@ returns-5 c =
     let n = c .before .before .before .before .before .before .before .before .before .before .before .before .before .before .before .loop2 .n in
     let i = c .before .before .before .before .before .before .before .before .before .before .before .before .before .before .before .loop2 .inv in
     let h = c .before .before .before .before .before .before .before .before .before .before .before .before .before .before .loop2-test .taken in
-    fails (λ S. stopped (c .before .mailbox-sound .ensures) (c .if5 .taken) (sound-parts _ S .mailboxes n (in-range 1 mailbox-limit n (i .0) (omega arith))))
+    fails (λ S. stopped (c .before .mailbox-sound .ensures) (c .if5 .taken) (sound-parts _ S .mailboxes n (to-within 1 mailbox-limit n (i .0) (omega arith))))
 
 add-n : tie.Need-add-n Inv-loop μ-loop Inv-loop2 μ-loop2
 add-n c = let h = c .before .before .before .before .before .before .before .before .before .before .before .before .before .before .loop2-test .taken in omega arith
