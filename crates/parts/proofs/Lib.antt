@@ -1,3 +1,4 @@
+pub mod Stops
 pub mod Tasks
 pub mod Empty
 pub mod Queues

@@ -1,6 +1,6 @@
 -- A mailbox's test says what `MailboxSound` says: a list is empty exactly where its chain's first number is 0, and the attributes 0 to 3 are four cases.
 use mathlib.Core.Path.{_≡_, refl, sym, _∙_}
-use mathlib.Core.Bool.{Bool, true, false, cond, _&&_, _||_}
+use mathlib.Core.Bool.{Bool, true, false, cond, _||_}
 use mathlib.Core.List.{List, [], headD}
 use mathlib.Core.Logic.{_⊎_, inl, inr, ⊎-elim}
 use Prim.Native.Nat.{ℕ, zero, suc, _+_, _<_, _≤_, zero-le}
@@ -10,7 +10,7 @@ use lib.ListN.{getD}
 use borrow.Author.Tests.{leb-false}
 use Rattle.lists.specs.Lists.{InOrder, one-of}
 use Rattle.lists.specs.Tests.{Whether}
-use Rattle.lists.proofs.Tests.{is-map, is-and}
+use Rattle.lists.proofs.Tests.{is-map}
 use Rattle.chain.specs.Table.{lists, keys-of}
 use Rattle.chain.specs.Changes.{HasChain}
 use Rattle.model.specs.Sizes.{task-limit, message-limit, priority-limit}
@@ -68,37 +68,43 @@ module _ {link key message-link message-key : List ℕ} {number : ℕ} (a : Mail
 
 module _ (x : Mailbox) {link key message-link message-key : List ℕ} {number : ℕ} (a : MailboxTestable number link key message-link message-key) {waiter message : ℕ}
     (w : waiter ≡ headD (getD (lists task-limit task-chains link) (32 + number) []) 0) (m : message ≡ headD (getD (lists message-limit message-chains message-link) number []) 0) where
-  pub defined-mailbox : {b c e : Bool} → x .defined ≡ true
-      → Whether (NumbersSound (x .attribute) (x .highest) × ((waiter ≡ 0) ⊎ (message ≡ 0))) b
-      → Whether (T (eqb (x .attribute) 1 || eqb (x .attribute) 3) → InOrder 1 priority-limit (keys-of key (getD (lists task-limit task-chains link) (32 + number) []))) c
-      → Whether (T (leb 2 (x .attribute)) → InOrder 1 (x .highest) (keys-of message-key (getD (lists message-limit message-chains message-link) number []))) e
-      → Whether (MailboxSound x link key message-link message-key number) ((b && c) && e)
+  -- What the tests of a defined mailbox decide: those of numbers, and then those of the waiters' order and of the messages'.
+  abbrev Tested : Type 0
+  Tested =
+      (NumbersSound (x .attribute) (x .highest) × ((waiter ≡ 0) ⊎ (message ≡ 0)))
+      × ((T (eqb (x .attribute) 1 || eqb (x .attribute) 3) → InOrder 1 priority-limit (keys-of key (getD (lists task-limit task-chains link) (32 + number) [])))
+      × (T (leb 2 (x .attribute)) → InOrder 1 (x .highest) (keys-of message-key (getD (lists message-limit message-chains message-link) number []))))
+
+  pub defined-mailbox : {b : Bool} → x .defined ≡ true → Whether Tested b → Whether (MailboxSound x link key message-link message-key number) b
   unfolding tasks-in messages-in
-  defined-mailbox d i o q =
+  defined-mailbox d i =
       let first-waiter = chain-zero (waiters-chain a) w in
       let first-message = chain-zero (messages-chain a) m in
       let kept : kept-attribute x ≡ x .attribute = rw d in
       is-map
       (λ p.
-      let range = p .0 .0 .0 .attribute-in-range in
+      let range = p .0 .0 .attribute-in-range in
       record {
         row = record {
           undefined = λ t. absurd (rw d at t);
           attribute-in-range = rw kept range;
-          highest-in-range = rw kept (highest-range (p .0 .0 .0));
-          waiters = unless-empty first-waiter (first-message .then-empty) (p .0 .0 .1);
+          highest-in-range = rw kept (highest-range (p .0 .0));
+          waiters = unless-empty first-waiter (first-message .then-empty) (p .0 .1);
         };
-        waiters-in-order = λ t. p .0 .1 (rw (kept, waiters-go-by-priority (x .attribute) range) at t);
-        messages-in-order = λ t. p .1 (rw (kept, messages-go-by-priority (x .attribute) range) at t);
+        waiters-in-order = λ t. p .1 .0 (rw (kept, waiters-go-by-priority (x .attribute) range) at t);
+        messages-in-order = λ t. p .1 .1 (rw (kept, messages-go-by-priority (x .attribute) range) at t);
       })
       (λ y.
       let range : x .attribute ≤ 3 = rw kept at (y .row .attribute-in-range) in
       let numbers = numbers-sound (x .attribute) (x .highest) range (rw kept at (y .row .highest-in-range)) in
       let waits = zero-or first-waiter (first-message .then-zero) (y .row .waiters) in (
-        ((numbers, waits), λ t. y .waiters-in-order (rw (kept, waiters-go-by-priority (x .attribute) range) t)),
-        λ t. y .messages-in-order (rw (kept, messages-go-by-priority (x .attribute) range) t),
+        (numbers, waits),
+        (
+          (λ t. y .waiters-in-order (rw (kept, waiters-go-by-priority (x .attribute) range) t)),
+          (λ t. y .messages-in-order (rw (kept, messages-go-by-priority (x .attribute) range) t)),
+        ),
       ))
-      (is-and (is-and i o) q)
+      i
 
   pub undefined-mailbox : {b : Bool} → x .defined ≡ false → Whether ((waiter ≡ 0) × (message ≡ 0)) b → Whether (MailboxSound x link key message-link message-key number) b
   unfolding tasks-in messages-in one-of

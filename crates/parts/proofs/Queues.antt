@@ -1,6 +1,6 @@
 -- A data queue's test says what `QueueSound` says: a wait queue is empty exactly where its chain's first number is 0.
 use mathlib.Core.Path.{_≡_, sym, _∙_}
-use mathlib.Core.Bool.{Bool, true, false, not, _&&_}
+use mathlib.Core.Bool.{Bool, true, false, not}
 use mathlib.Core.List.{List, [], headD}
 use mathlib.Core.Logic.{inl, inr, ⊎-elim}
 use Prim.Native.Nat.{ℕ, _+_, _≤_, zero-le}
@@ -9,7 +9,7 @@ use lib.Dec.{T, eqb}
 use lib.ListN.{length, getD}
 use Rattle.lists.specs.Lists.{InOrder, empty}
 use Rattle.lists.specs.Tests.{Whether}
-use Rattle.lists.proofs.Tests.{is-map, is-and}
+use Rattle.lists.proofs.Tests.{is-map}
 use Rattle.chain.specs.Table.{lists, keys-of}
 use Rattle.chain.specs.Changes.{HasChain}
 use Rattle.ring.specs.Ring.{stored, InRange}
@@ -51,12 +51,15 @@ module _ {link key : List ℕ} {q : ℕ} (a : QueueTestable q link key) where
 
 module _ (x : Queue) {link key : List ℕ} {q : ℕ} (a : QueueTestable q link key) {sender receiver : ℕ}
     (s : sender ≡ headD (getD (lists task-limit task-chains link) q []) 0) (r : receiver ≡ headD (getD (lists task-limit task-chains link) (16 + q) []) 0) where
-  pub defined-queue : {b c : Bool} → x .defined ≡ true
-      → Whether (((x .attribute ≤ 1) × InRange (x .ring)) × WaitsSound (x .ring .count) (x .ring .capacity) sender receiver) b
-      → Whether (T (eqb (x .attribute) 1) → InOrder 1 priority-limit (keys-of key (getD (lists task-limit task-chains link) q []))) c
-      → Whether (QueueSound x link key q) (b && c)
+  -- What the tests of a defined queue decide: those of numbers, and then that of the order.
+  abbrev Tested : Type 0
+  Tested =
+      (((x .attribute ≤ 1) × InRange (x .ring)) × WaitsSound (x .ring .count) (x .ring .capacity) sender receiver)
+      × (T (eqb (x .attribute) 1) → InOrder 1 priority-limit (keys-of key (getD (lists task-limit task-chains link) q [])))
+
+  pub defined-queue : {b : Bool} → x .defined ≡ true → Whether Tested b → Whether (QueueSound x link key q) b
   unfolding tasks-in
-  defined-queue d i o =
+  defined-queue d i =
       let first-sender = chain-zero (senders-chain a) s in
       let first-receiver = chain-zero (receivers-chain a) r in
       is-map
@@ -76,7 +79,7 @@ module _ (x : Queue) {link key : List ℕ} {q : ℕ} (a : QueueTestable q link k
         ((rw d at (y .row .attribute-in-range), y .ring (rw d tt)), waits-are (x .ring) first-sender first-receiver (rw d at (y .row .senders)) (y .row .receivers)),
         λ t. y .senders-in-order (rw d t),
       ))
-      (is-and i o)
+      i
 
   pub undefined-queue : {b : Bool} → x .defined ≡ false → Whether (((x .ring .count ≡ 0) × (sender ≡ 0)) × (receiver ≡ 0)) b → Whether (QueueSound x link key q) b
   unfolding tasks-in

@@ -89,12 +89,23 @@ fn wait_sound(wait: Wait, standing: u8, counter: u32) -> bool
             queue,
             end,
             word: _,
-        } => names_chain(standing, 0, queue) & end_sound(end, counter),
+        } => {
+            if !names_chain(standing, 0, queue) {
+                return false;
+            }
+            end_sound(end, counter)
+        }
         Wait::Receiving { queue, end } => {
-            names_chain(standing, 16, queue) & end_sound(end, counter)
+            if !names_chain(standing, 16, queue) {
+                return false;
+            }
+            end_sound(end, counter)
         }
         Wait::AtMailbox { mailbox, end } => {
-            names_chain(standing, 32, mailbox) & end_sound(end, counter)
+            if !names_chain(standing, 32, mailbox) {
+                return false;
+            }
+            end_sound(end, counter)
         }
     }
 }
@@ -141,10 +152,10 @@ pub fn task_sound(task: Task, priority: u8, standing: u8, counter: u32) -> bool
     let wait = task.wait;
     if task.defined {
         let code = task.code;
-        return (1 <= priority)
-            & (priority <= 16)
-            & code_sound(code)
-            & wait_sound(wait, standing, counter);
+        if !((1 <= priority) & (priority <= 16) & code_sound(code)) {
+            return false;
+        }
+        return wait_sound(wait, standing, counter);
     }
     !task.suspended & (standing == 0) & no_wait(wait)
 }
@@ -174,7 +185,10 @@ fn in_order_if<'a>(
 fn waits_sound(count: u8, capacity: u8, sender: u8, receiver: u8) -> bool
     ensures { λ r. ⌜ Whether (WaitsSound count capacity sender receiver) r ⌝ }
 {
-    ((sender == 0) | (count == capacity) & (receiver == 0)) & ((receiver == 0) | (count == 0))
+    if sender != 0 {
+        return (count == capacity) & (receiver == 0);
+    }
+    (receiver == 0) | (count == 0)
 }
 
 // Whether the data queue of this number is sound, with those that wait at it. The table of waiting tasks is sound.
@@ -193,10 +207,12 @@ pub fn queue_sound<'a>(
     let count = queue.ring.count;
     let capacity = queue.ring.capacity;
     if queue.defined {
-        return (attribute <= 1)
+        if !((attribute <= 1)
             & ring::in_range(queue.ring.head, count, capacity)
-            & waits_sound(count, capacity, sender, receiver)
-            & in_order_if(link, key, TASKS, TASK_CHAINS, number, attribute == 1, 16);
+            & waits_sound(count, capacity, sender, receiver)) {
+            return false;
+        }
+        return in_order_if(link, key, TASKS, TASK_CHAINS, number, attribute == 1, 16);
     }
     (count == 0) & (sender == 0) & (receiver == 0)
 }
@@ -205,7 +221,10 @@ pub fn queue_sound<'a>(
 fn numbers_sound(attribute: u8, highest: u8) -> bool
     ensures { λ r. ⌜ Whether (NumbersSound attribute highest) r ⌝ }
 {
-    (attribute <= 3) & ((attribute < 2) | (1 <= highest) & (highest <= 16))
+    if attribute < 2 {
+        return true;
+    }
+    (attribute <= 3) & (1 <= highest) & (highest <= 16)
 }
 
 // Whether the mailbox of this number is sound, with those that wait at it and its messages. Both tables are sound.
@@ -225,26 +244,22 @@ pub fn mailbox_sound<'a>(
     let attribute = mailbox.attribute;
     let highest = mailbox.highest;
     if mailbox.defined {
-        return numbers_sound(attribute, highest)
-            & ((waiter == 0) | (message == 0))
-            & in_order_if(
-                link,
-                key,
-                TASKS,
-                TASK_CHAINS,
-                32 + number,
-                (attribute == 1) | (attribute == 3),
-                16,
-            )
-            & in_order_if(
-                messages,
-                priorities,
-                MESSAGES,
-                MESSAGE_CHAINS,
-                number,
-                2 <= attribute,
-                highest,
-            );
+        if !(numbers_sound(attribute, highest) & ((waiter == 0) | (message == 0))) {
+            return false;
+        }
+        let by_priority = (attribute == 1) | (attribute == 3);
+        if !in_order_if(link, key, TASKS, TASK_CHAINS, 32 + number, by_priority, 16) {
+            return false;
+        }
+        return in_order_if(
+            messages,
+            priorities,
+            MESSAGES,
+            MESSAGE_CHAINS,
+            number,
+            2 <= attribute,
+            highest,
+        );
     }
     (waiter == 0) & (message == 0)
 }

@@ -1,6 +1,7 @@
 -- `mailbox_sound` is exact: its tests are, and they say what `MailboxSound` says of a defined mailbox, and of an undefined one.
 use borrow.Author.Needs.{needs}
 use Rattle.lists.proofs.Tests.{is-and, is-or, is-eqb}
+use Rattle.parts.proofs.Stops.{stops, goes-on}
 use Rattle.parts.proofs.Mailboxes.{defined-mailbox, undefined-mailbox}
 use Rattle.parts.proofs.mailbox_sound.Statement.{statement}
 use Rattle.parts.proofs.mailbox_sound.Tie as tie
@@ -17,25 +18,44 @@ first-requires-2 c κs = search needs
 numbers-sound-requires : tie.Need-numbers-sound-requires
 numbers-sound-requires c κs = search needs
 
+returns : tie.Need-returns
+returns c =
+    let taken = c .before .before in
+    let heads = taken .before in
+    let start = heads .before .before in
+    defined-mailbox (start .args .mailbox) (start .pre) (heads .before .first .ensures) (heads .first2 .ensures) (taken .if1 .taken)
+    (stops (is-and (c .before .numbers-sound .ensures) (is-or (is-eqb _ _) (is-eqb _ _))) (c .if2 .taken))
+
 add-in-order-if : tie.Need-add-in-order-if
 add-in-order-if c = search needs
 
 in-order-if-requires : tie.Need-in-order-if-requires
-in-order-if-requires c κs = (search needs, c .before .before .before .before .pre .keys-count)
+in-order-if-requires c κs = (search needs, c .before .before .before .before .before .pre .keys-count)
+
+returns-2 : tie.Need-returns-2
+returns-2 c =
+    let on = c .before .before in
+    let taken = on .before .before in
+    let heads = taken .before in
+    let start = heads .before .before in
+    defined-mailbox (start .args .mailbox) (start .pre) (heads .before .first .ensures) (heads .first2 .ensures) (taken .if1 .taken)
+    (goes-on (is-and (on .before .numbers-sound .ensures) (is-or (is-eqb _ _) (is-eqb _ _))) (on .if2 .left) (stops (c .before .in-order-if .ensures) (c .if3 .taken)))
 
 in-order-if-requires-2 : tie.Need-in-order-if-requires-2
 in-order-if-requires-2 c κs = search needs
 
-returns : tie.Need-returns
-returns c =
-    let taken = c .before .before .before in
+returns-3 : tie.Need-returns-3
+returns-3 c =
+    let on = c .before .before .before in
+    let taken = on .before .before in
     let heads = taken .before in
     let start = heads .before .before in
     defined-mailbox (start .args .mailbox) (start .pre) (heads .before .first .ensures) (heads .first2 .ensures) (taken .if1 .taken)
-    (is-and (c .before .before .numbers-sound .ensures) (is-or (is-eqb _ _) (is-eqb _ _))) (c .before .in-order-if .ensures) (c .in-order-if2 .ensures)
+    (goes-on (is-and (on .before .numbers-sound .ensures) (is-or (is-eqb _ _) (is-eqb _ _))) (on .if2 .left)
+    (goes-on (c .before .before .in-order-if .ensures) (c .before .if3 .left) (c .in-order-if2 .ensures)))
 
-returns-2 : tie.Need-returns-2
-returns-2 c =
+returns-4 : tie.Need-returns-4
+returns-4 c =
     let heads = c .before in
     let start = heads .before .before in
     undefined-mailbox (start .args .mailbox) (start .pre) (heads .before .first .ensures) (heads .first2 .ensures) (c .if1 .left) (is-and (is-eqb _ _) (is-eqb _ _))
@@ -48,8 +68,10 @@ mailbox-sound-spec =
     first-requires
     first-requires-2
     numbers-sound-requires
+    returns
     add-in-order-if
     in-order-if-requires
+    returns-2
     in-order-if-requires-2
-    returns
-    returns-2)
+    returns-3
+    returns-4)

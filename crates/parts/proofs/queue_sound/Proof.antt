@@ -1,6 +1,7 @@
 -- `queue_sound` is exact: its tests are, and they say what `QueueSound` says of a defined queue, and of an undefined one.
 use borrow.Author.Needs.{needs}
 use Rattle.lists.proofs.Tests.{is-and, is-leb, is-eqb}
+use Rattle.parts.proofs.Stops.{stops, goes-on}
 use Rattle.parts.proofs.Queues.{defined-queue, undefined-queue}
 use Rattle.parts.proofs.queue_sound.Statement.{statement}
 use Rattle.parts.proofs.queue_sound.Tie as tie
@@ -20,19 +21,29 @@ in-range-requires c κs = search needs
 waits-sound-requires : tie.Need-waits-sound-requires
 waits-sound-requires c κs = search needs
 
-in-order-if-requires : tie.Need-in-order-if-requires
-in-order-if-requires c κs = (search needs, c .before .before .before .before .before .pre .keys-count)
-
 returns : tie.Need-returns
 returns c =
-    let taken = c .before .before .before in
+    let tested = c .before in
+    let taken = tested .before .before in
     let heads = taken .before in
     let start = heads .before .before in
     defined-queue (start .args .queue) (start .pre) (heads .before .first .ensures) (heads .first2 .ensures) (taken .if1 .taken)
-    (is-and (is-and (is-leb _ _) (c .before .before .in-range .ensures)) (c .before .waits-sound .ensures)) (c .in-order-if .ensures)
+    (stops (is-and (is-and (is-leb _ _) (tested .before .in-range .ensures)) (tested .waits-sound .ensures)) (c .if2 .taken))
+
+in-order-if-requires : tie.Need-in-order-if-requires
+in-order-if-requires c κs = (search needs, c .before .before .before .before .before .before .pre .keys-count)
 
 returns-2 : tie.Need-returns-2
 returns-2 c =
+    let tested = c .before .before in
+    let taken = tested .before .before in
+    let heads = taken .before in
+    let start = heads .before .before in
+    defined-queue (start .args .queue) (start .pre) (heads .before .first .ensures) (heads .first2 .ensures) (taken .if1 .taken)
+    (goes-on (is-and (is-and (is-leb _ _) (tested .before .in-range .ensures)) (tested .waits-sound .ensures)) (c .before .if2 .left) (c .in-order-if .ensures))
+
+returns-3 : tie.Need-returns-3
+returns-3 c =
     let heads = c .before in
     let start = heads .before .before in
     undefined-queue (start .args .queue) (start .pre) (heads .before .first .ensures) (heads .first2 .ensures) (c .if1 .left)
@@ -47,6 +58,7 @@ queue-sound-spec =
     first-requires-2
     in-range-requires
     waits-sound-requires
-    in-order-if-requires
     returns
-    returns-2)
+    in-order-if-requires
+    returns-2
+    returns-3)

@@ -1,4 +1,5 @@
--- `waits_sound` is exact: its tests are, and they say what `WaitsSound` says.
+-- `waits_sound` is exact: by whether there is a sender its tests say what `WaitsSound` says.
+use mathlib.Core.Logic.{inl, inr, ⊎-elim}
 use Rattle.lists.proofs.Tests.{is-map, is-and, is-or, is-eqb}
 use Rattle.parts.proofs.waits_sound.Statement.{statement}
 use Rattle.parts.proofs.waits_sound.Tie as tie
@@ -6,9 +7,16 @@ use Rattle.parts.proofs.waits_sound.Tie as tie
 returns : tie.Need-returns
 returns c =
     is-map
-    (λ t. record { senders = t .0; receivers = t .1 })
-    (λ w. (w .senders, w .receivers))
-    (is-and (is-or (is-eqb _ _) (is-and (is-eqb _ _) (is-eqb _ _))) (is-or (is-eqb _ _) (is-eqb _ _)))
+    (λ t. record { senders = inr t; receivers = inl (t .1) })
+    (λ w. ⊎-elim (λ z. absurd (c .if1 .taken z)) (λ h. h) (w .senders))
+    (is-and (is-eqb _ _) (is-eqb _ _))
+
+returns-2 : tie.Need-returns-2
+returns-2 c =
+    is-map
+    (λ t. record { senders = inl (c .if1 .left); receivers = t })
+    (λ w. w .receivers)
+    (is-or (is-eqb _ _) (is-eqb _ _))
 
 pub waits-sound-spec : {M : Type 1} → statement M
-waits-sound-spec = tie.close (tie.spec returns)
+waits-sound-spec = tie.close (tie.spec returns returns-2)
