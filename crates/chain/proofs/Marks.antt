@@ -1,10 +1,11 @@
 -- The test of all chains is exact: a marking walk fails only where no chain of unmarked numbers stands, and the marks say where each stands.
-use mathlib.Core.Path.{_≡_, refl, sym, ap, _∙_}
+use mathlib.Core.Path.{subst, _≡_, refl, sym, ap, _∙_}
 use mathlib.Core.Bool.{Bool, true, false, true≢false}
 use mathlib.Core.List.{List, [], _∷_, List·Memᴰ as In, List·Memᴰ·head as here, List·Memᴰ·tail as there, List·Memᴰ·not-nil, List·Memᴰ·cases-cons, Memᴰ·cast}
 use mathlib.Core.Logic.{_≢_, _⊎_, inl, inr, ⊎-elim}
 use Prim.Native.Nat.{ℕ, zero, suc, _+_, _-_, _<_, _≤_}
 use native.Mathlib.Omega.{arith}
+use native.Mathlib.Nat.{add-assoc}
 use native.Mathlib.Decide.{ℕ-discrete}
 use lib.ListN.{length, getD, set, length-set, replicate}
 use lib.Seq.{getD-set-same, getD-set-other}
@@ -12,7 +13,7 @@ use Rattle.lists.specs.Tests.{Whether, holds, fails}
 use Rattle.lists.proofs.Members.{is-one-of}
 use Rattle.lists.proofs.Reading.{all-same}
 use Rattle.chain.specs.Table.{key-cells, follow, lists, chain-of, Chain, ends, goes-on, Room, Sound}
-use Rattle.chain.specs.Walks.{Marking, Unmarked, mark-all, Marked, MarkTested}
+use Rattle.chain.specs.Walks.{FourEmpty, Marking, Unmarked, mark-all, Marked, MarkTested}
 use Rattle.chain.specs.Changes.{Tested}
 use Rattle.chain.proofs.Chain.{in-range, no-loop, short, reads, leads}
 use Rattle.chain.proofs.Table.{length-lists, list-at, list-none, entry-range}
@@ -139,6 +140,22 @@ marked-below-more {n} {k} {s} {marks} {marks'} pos fit b a = record {
     st : {c : Bool} (j x : ℕ) → 0 < j → getD marks' x 0 ≡ j → Whether (In x (follow n s (n + k))) c → (j < k + 1) × In x (follow n s (n + j))
     st j x lo q (holds i) = let z : j ≡ k = let y = inside x i in omega arith in (omega arith, rw z i)
     st j x lo q (fails f) = let r = b .stands lo (sym (outside x f) ∙ q) in (let y = r .0 in omega arith, r .1)
+
+-- Four chains more, all of them empty.
+pub marked-below-four : {n c k : ℕ} {s marks : List ℕ} → Room n c s → 0 < k → MarkedBelow n k s marks → FourEmpty n c k s → MarkedBelow n (k + 4) s marks
+marked-below-four {n} {c} {k} {s} {marks} t pos b four =
+    let w = four .within in
+    let one = empty-more k pos (omega arith) b (four .first) in
+    let two = empty-more (k + 1) (omega arith) (omega arith) one (rw (add-assoc n k 1) at (four .second)) in
+    let three = empty-more (k + 2) (omega arith) (omega arith) (subst (λ j. MarkedBelow n j s marks) (add-assoc k 1 1) two) (rw (add-assoc n k 2) at (four .third)) in
+    let all = empty-more (k + 3) (omega arith) (omega arith) (subst (λ j. MarkedBelow n j s marks) (add-assoc k 2 1) three) (rw (add-assoc n k 3) at (four .fourth)) in
+    subst (λ j. MarkedBelow n j s marks) (add-assoc k 3 1) all
+  where
+    empty-more : (j : ℕ) → 0 < j → j ≤ c → MarkedBelow n j s marks → getD s (n + j) 0 ≡ 0 → MarkedBelow n (j + 1) s marks
+    empty-more j lo hi m e =
+        let h = t .heads-fit in
+        let w : Marking n (n + j) j s marks = record { cells-count = t .cells-count; marks-count = m .size; keys-fit = t .keys-fit; cell-fits = omega arith; mark-positive = lo } in
+        marked-below-more lo (t .keys-fit) m (mark-end w e refl)
 
 -- All chains are tested.
 pub tested-true : {n c : ℕ} {s marks : List ℕ} → Room n c s → MarkedBelow n (c + 1) s marks → Tested n c s marks true

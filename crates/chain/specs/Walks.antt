@@ -2,7 +2,7 @@
 use mathlib.Core.Path.{_≡_}
 use mathlib.Core.Bool.{Bool, true, false}
 use mathlib.Core.List.{List, [], _∷_, List·Memᴰ as In}
-use Prim.Native.Nat.{ℕ, _<_, _≤_}
+use Prim.Native.Nat.{ℕ, _+_, _<_, _≤_}
 use lib.Dec.{leb}
 use lib.ListN.{length, getD, drop, set}
 use Rattle.lists.specs.Lists.{ahead, passed}
@@ -66,3 +66,11 @@ pub record MarkTested (numbers cell mark left : ℕ) (s marks marks' : List ℕ)
   pub size : length marks' ≡ length marks
   pub if-true : answer ≡ true → Marked numbers cell mark s marks marks'
   pub if-false : answer ≡ false → (l : List ℕ) → Chain numbers s cell l → length l ≤ left → Unmarked marks l → ⊥
+
+-- The chain and the three after it are chains of the table, and nothing stands in them.
+pub record FourEmpty (numbers chains chain : ℕ) (s : List ℕ) : Type 0 where
+  pub within : chain + 3 ≤ chains
+  pub first : getD s (numbers + chain) 0 ≡ 0
+  pub second : getD s (numbers + chain + 1) 0 ≡ 0
+  pub third : getD s (numbers + chain + 2) 0 ≡ 0
+  pub fourth : getD s (numbers + chain + 3) 0 ≡ 0
