@@ -51,11 +51,11 @@ enum Wait {
 #[repr(C)]
 #[derive(Clone, Copy)]
 struct Task {
+    wait: Wait,
+    word: u32,
+    code: Code,
     defined: bool,
     suspended: bool,
-    wait: Wait,
-    code: Code,
-    word: u32,
 }
 
 #[repr(C)]

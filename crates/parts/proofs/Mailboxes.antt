@@ -15,8 +15,9 @@ use Rattle.chain.specs.Table.{lists, keys-of}
 use Rattle.chain.specs.Changes.{HasChain}
 use Rattle.model.specs.Sizes.{task-limit, message-limit, priority-limit}
 use Rattle.model.specs.Rows.{waiters-by-priority, messages-by-priority}
+use Rattle.model.proofs.Choices.{cond-yes}
 use Rattle.parts.specs.Chains.{task-chains, message-chains, tasks-in, messages-in}
-use Rattle.parts.specs.Mailboxes.{kept-attribute, MailboxSound, MailboxTestable, NumbersSound}
+use Rattle.parts.specs.Mailboxes.{kept-attribute, MailboxSound, MailboxTestable, MailboxNumbersSound}
 use Rattle.parts.specs.declared.Mailbox.{Mailbox}
 use Rattle.parts.proofs.Empty.{chain-zero, unless-empty, zero-or}
 
@@ -40,18 +41,14 @@ messages-go-by-priority = attributes-agree messages-by-priority (leb 2) refl ref
 abbrev kept-highest : ℕ → ℕ → ℕ
 kept-highest attribute highest = cond (messages-by-priority attribute) highest 0
 
-cond-yes : (b : Bool) (n : ℕ) → T b → cond b n 0 ≡ n
-cond-yes true n t = refl
-cond-yes false n t = absurd t
-
-highest-range : {attribute highest : ℕ} → NumbersSound attribute highest → T (messages-by-priority attribute)
+highest-range : {attribute highest : ℕ} → MailboxNumbersSound attribute highest → T (messages-by-priority attribute)
     → (1 ≤ kept-highest attribute highest) × (kept-highest attribute highest ≤ priority-limit)
 highest-range {attribute} {highest} n t =
     let by-priority = leb→le 2 attribute (rw (messages-go-by-priority attribute (n .attribute-in-range)) at t) in
-    rw (cond-yes (messages-by-priority attribute) highest t) (⊎-elim (λ below. absurd (omega arith)) (λ r. r) (n .highest-in-range))
+    rw (cond-yes (messages-by-priority attribute) highest 0 t) (⊎-elim (λ below. absurd (omega arith)) (λ r. r) (n .highest-in-range))
 
 numbers-sound : (attribute highest : ℕ) → attribute ≤ 3
-    → (T (messages-by-priority attribute) → (1 ≤ kept-highest attribute highest) × (kept-highest attribute highest ≤ priority-limit)) → NumbersSound attribute highest
+    → (T (messages-by-priority attribute) → (1 ≤ kept-highest attribute highest) × (kept-highest attribute highest ≤ priority-limit)) → MailboxNumbersSound attribute highest
 numbers-sound attribute highest range h = record { attribute-in-range = range; highest-in-range = go (messages-by-priority attribute) refl h }
   where
     go : (b : Bool) → messages-by-priority attribute ≡ b → (T b → (1 ≤ cond b highest 0) × (cond b highest 0 ≤ priority-limit))
@@ -68,12 +65,13 @@ module _ {link key message-link message-key : List ℕ} {number : ℕ} (a : Mail
 
 module _ (x : Mailbox) {link key message-link message-key : List ℕ} {number : ℕ} (a : MailboxTestable number link key message-link message-key) {waiter message : ℕ}
     (w : waiter ≡ headD (getD (lists task-limit task-chains link) (32 + number) []) 0) (m : message ≡ headD (getD (lists message-limit message-chains message-link) number []) 0) where
-  -- What the tests of a defined mailbox decide: those of numbers, and then those of the waiters' order and of the messages'.
+  -- What the tests of a defined mailbox decide: ranges, then who may wait, then the waiters' order and the messages'.
   abbrev Tested : Type 0
   Tested =
-      (NumbersSound (x .attribute) (x .highest) × ((waiter ≡ 0) ⊎ (message ≡ 0)))
+      MailboxNumbersSound (x .attribute) (x .highest)
+      × (((waiter ≡ 0) ⊎ (message ≡ 0))
       × ((T (eqb (x .attribute) 1 || eqb (x .attribute) 3) → InOrder 1 priority-limit (keys-of key (getD (lists task-limit task-chains link) (32 + number) [])))
-      × (T (leb 2 (x .attribute)) → InOrder 1 (x .highest) (keys-of message-key (getD (lists message-limit message-chains message-link) number []))))
+      × (T (leb 2 (x .attribute)) → InOrder 1 (x .highest) (keys-of message-key (getD (lists message-limit message-chains message-link) number [])))))
 
   pub defined-mailbox : {b : Bool} → x .defined ≡ true → Whether Tested b → Whether (MailboxSound x link key message-link message-key number) b
   unfolding tasks-in messages-in
@@ -83,25 +81,28 @@ module _ (x : Mailbox) {link key message-link message-key : List ℕ} {number : 
       let kept : kept-attribute x ≡ x .attribute = rw d in
       is-map
       (λ p.
-      let range = p .0 .0 .attribute-in-range in
+      let range = p .0 .attribute-in-range in
       record {
         row = record {
           undefined = λ t. absurd (rw d at t);
           attribute-in-range = rw kept range;
-          highest-in-range = rw kept (highest-range (p .0 .0));
-          waiters = unless-empty first-waiter (first-message .then-empty) (p .0 .1);
+          highest-in-range = rw kept (highest-range (p .0));
+          waiters = unless-empty first-waiter (first-message .then-empty) (p .1 .0);
         };
-        waiters-in-order = λ t. p .1 .0 (rw (kept, waiters-go-by-priority (x .attribute) range) at t);
-        messages-in-order = λ t. p .1 .1 (rw (kept, messages-go-by-priority (x .attribute) range) at t);
+        waiters-in-order = λ t. p .1 .1 .0 (rw (kept, waiters-go-by-priority (x .attribute) range) at t);
+        messages-in-order = λ t. p .1 .1 .1 (rw (kept, messages-go-by-priority (x .attribute) range) at t);
       })
       (λ y.
       let range : x .attribute ≤ 3 = rw kept at (y .row .attribute-in-range) in
       let numbers = numbers-sound (x .attribute) (x .highest) range (rw kept at (y .row .highest-in-range)) in
       let waits = zero-or first-waiter (first-message .then-zero) (y .row .waiters) in (
-        (numbers, waits),
+        numbers,
         (
-          (λ t. y .waiters-in-order (rw (kept, waiters-go-by-priority (x .attribute) range) t)),
-          (λ t. y .messages-in-order (rw (kept, messages-go-by-priority (x .attribute) range) t)),
+          waits,
+          (
+            (λ t. y .waiters-in-order (rw (kept, waiters-go-by-priority (x .attribute) range) t)),
+            (λ t. y .messages-in-order (rw (kept, messages-go-by-priority (x .attribute) range) t)),
+          ),
         ),
       ))
       i

@@ -17,7 +17,7 @@ use Rattle.ring.specs.declared.Ring.{Ring}
 use Rattle.ring.proofs.Stored.{length-stored}
 use Rattle.model.specs.Sizes.{task-limit, priority-limit}
 use Rattle.parts.specs.Chains.{task-chains, tasks-in}
-use Rattle.parts.specs.Queues.{QueueSound, QueueTestable, WaitsSound}
+use Rattle.parts.specs.Queues.{QueueSound, QueueTestable, MayWait}
 use Rattle.parts.specs.declared.Queue.{Queue}
 use Rattle.parts.proofs.Empty.{ZeroIffEmpty, count-zero, chain-zero, unless-empty, zero-or}
 
@@ -26,17 +26,17 @@ counted ring = count-zero (stored ring) (length-stored ring)
 
 -- Those that wait at a queue with this ring, in numbers and in lists.
 module _ (ring : Ring) {sender receiver : ℕ} {senders receivers : List ℕ} (first-sender : ZeroIffEmpty sender senders) (first-receiver : ZeroIffEmpty receiver receivers) where
-  senders-wait : WaitsSound (ring .count) (ring .capacity) sender receiver → T (not (empty senders)) → (length (stored ring) ≡ ring .capacity) × (receivers ≡ [])
+  senders-wait : MayWait (ring .count) (ring .capacity) sender receiver → T (not (empty senders)) → (length (stored ring) ≡ ring .capacity) × (receivers ≡ [])
   senders-wait w = unless-empty first-sender (λ h. (length-stored ring ∙ h .0, first-receiver .then-empty (h .1))) (w .senders)
 
-  receivers-wait : WaitsSound (ring .count) (ring .capacity) sender receiver → T (not (empty receivers)) → (stored ring ≡ []) × (senders ≡ [])
+  receivers-wait : MayWait (ring .count) (ring .capacity) sender receiver → T (not (empty receivers)) → (stored ring ≡ []) × (senders ≡ [])
   receivers-wait w t = (
     unless-empty first-receiver (counted ring .then-empty) (w .receivers) t,
     unless-empty first-receiver (first-sender .then-empty) (⊎-elim inr (λ h. inl (h .1)) (w .senders)) t,
   )
 
   waits-are : (T (not (empty senders)) → (length (stored ring) ≡ ring .capacity) × (receivers ≡ [])) → (T (not (empty receivers)) → (stored ring ≡ []) × (senders ≡ []))
-      → WaitsSound (ring .count) (ring .capacity) sender receiver
+      → MayWait (ring .count) (ring .capacity) sender receiver
   waits-are f g = record {
     senders = zero-or first-sender (λ h. (sym (length-stored ring) ∙ h .0, first-receiver .then-zero (h .1))) f;
     receivers = zero-or first-receiver (λ h. counted ring .then-zero (h .0)) g;
@@ -51,11 +51,12 @@ module _ {link key : List ℕ} {q : ℕ} (a : QueueTestable q link key) where
 
 module _ (x : Queue) {link key : List ℕ} {q : ℕ} (a : QueueTestable q link key) {sender receiver : ℕ}
     (s : sender ≡ headD (getD (lists task-limit task-chains link) q []) 0) (r : receiver ≡ headD (getD (lists task-limit task-chains link) (16 + q) []) 0) where
-  -- What the tests of a defined queue decide: those of numbers, and then that of the order.
+  -- What the tests of a defined queue decide: ranges, then who may wait, then the order.
   abbrev Tested : Type 0
   Tested =
-      (((x .attribute ≤ 1) × InRange (x .ring)) × WaitsSound (x .ring .count) (x .ring .capacity) sender receiver)
-      × (T (eqb (x .attribute) 1) → InOrder 1 priority-limit (keys-of key (getD (lists task-limit task-chains link) q [])))
+      ((x .attribute ≤ 1) × InRange (x .ring))
+      × (MayWait (x .ring .count) (x .ring .capacity) sender receiver
+      × (T (eqb (x .attribute) 1) → InOrder 1 priority-limit (keys-of key (getD (lists task-limit task-chains link) q []))))
 
   pub defined-queue : {b : Bool} → x .defined ≡ true → Whether Tested b → Whether (QueueSound x link key q) b
   unfolding tasks-in
@@ -64,20 +65,20 @@ module _ (x : Queue) {link key : List ℕ} {q : ℕ} (a : QueueTestable q link k
       let first-receiver = chain-zero (receivers-chain a) r in
       is-map
       (λ p. record {
-        ring = λ t. p .0 .0 .1;
+        ring = λ t. p .0 .1;
         row = record {
           undefined = λ t. absurd (rw d at t);
-          attribute-in-range = rw d (p .0 .0 .0);
-          capacity-in-range = rw d (p .0 .0 .1 .capacity-fits);
-          count = rw (d, length-stored) (p .0 .0 .1 .count-fits);
-          senders = rw d (senders-wait (x .ring) first-sender first-receiver (p .0 .1));
-          receivers = receivers-wait (x .ring) first-sender first-receiver (p .0 .1);
+          attribute-in-range = rw d (p .0 .0);
+          capacity-in-range = rw d (p .0 .1 .capacity-fits);
+          count = rw (d, length-stored) (p .0 .1 .count-fits);
+          senders = rw d (senders-wait (x .ring) first-sender first-receiver (p .1 .0));
+          receivers = receivers-wait (x .ring) first-sender first-receiver (p .1 .0);
         };
-        senders-in-order = λ t. p .1 (rw d at t);
+        senders-in-order = λ t. p .1 .1 (rw d at t);
       })
       (λ y. (
-        ((rw d at (y .row .attribute-in-range), y .ring (rw d tt)), waits-are (x .ring) first-sender first-receiver (rw d at (y .row .senders)) (y .row .receivers)),
-        λ t. y .senders-in-order (rw d t),
+        (rw d at (y .row .attribute-in-range), y .ring (rw d tt)),
+        (waits-are (x .ring) first-sender first-receiver (rw d at (y .row .senders)) (y .row .receivers), λ t. y .senders-in-order (rw d t)),
       ))
       i
 

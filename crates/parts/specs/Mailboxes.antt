@@ -47,6 +47,6 @@ pub record MailboxTestable (b : ℕ) (link key message-link message-key : List �
   pub message-keys-count : length message-key ≡ key-cells
 
 -- What a part of the test decides.
-pub record NumbersSound (attribute highest : ℕ) : Type 0 where
+pub record MailboxNumbersSound (attribute highest : ℕ) : Type 0 where
   pub attribute-in-range : attribute ≤ 3
   pub highest-in-range : (attribute < 2) ⊎ ((1 ≤ highest) × (highest ≤ priority-limit))

@@ -43,6 +43,6 @@ pub record QueueTestable (q : ℕ) (link key : List ℕ) : Type 0 where
   pub keys-count : length key ≡ key-cells
 
 -- What a part of the test decides: a head sender only where the queue is full and has no receiver, a head receiver only where it is empty.
-pub record WaitsSound (count capacity sender receiver : ℕ) : Type 0 where
+pub record MayWait (count capacity sender receiver : ℕ) : Type 0 where
   pub senders : (sender ≡ 0) ⊎ ((count ≡ capacity) × (receiver ≡ 0))
   pub receivers : (receiver ≡ 0) ⊎ (count ≡ 0)

@@ -1,5 +1,5 @@
-// The parts of the kernel's record: a task, a data queue, a mailbox. Each has a test whether it is sound (document 01, "A sound
-// record"), exact for any part whatever, so that what fails can be named.
+// The parts of the kernel's record: a task, a data queue, a mailbox. Each has a test whether it is sound, which is document 01's word ("A
+// sound record"), exact whatever the part holds, once the chains are sound.
 ghost use mathlib.Core.Path.{_≡_};
 ghost use mathlib.Core.Bool.{true};
 ghost use mathlib.Core.List.{[]};
@@ -13,8 +13,8 @@ ghost use Rattle.chain.specs.Changes.{HasChain};
 ghost use Rattle.model.specs.declared.Wait.the-variants.{NoWait};
 ghost use Rattle.model.specs.WellFormed.{ends-a-wait, EndAhead};
 ghost use Rattle.parts.specs.Tasks.{NamesChain, WaitSound, TaskSound};
-ghost use Rattle.parts.specs.Queues.{WaitsSound, QueueTestable, QueueSound};
-ghost use Rattle.parts.specs.Mailboxes.{NumbersSound, MailboxTestable, MailboxSound};
+ghost use Rattle.parts.specs.Queues.{MayWait, QueueTestable, QueueSound};
+ghost use Rattle.parts.specs.Mailboxes.{MailboxNumbersSound, MailboxTestable, MailboxSound};
 use chain::CELLS;
 use chain::KEY_CELLS;
 use model::Code;
@@ -32,14 +32,14 @@ pub const MESSAGES: usize = 64;
 pub const MESSAGE_CHAINS: usize = 16;
 
 // A task's record says which wait it is in. Its priority and the number behind it stand in the cells of the same number of the table of
-// waiting tasks.
+// waiting tasks. The small fields come last, so that a task takes 24 bytes.
 pub struct Task {
-    pub defined: bool,
-    pub suspended: bool,
     pub wait: Wait,
     // The stored pair: what the last wait ended with.
-    pub code: Code,
     pub word: u32,
+    pub code: Code,
+    pub defined: bool,
+    pub suspended: bool,
 }
 
 pub struct Queue {
@@ -51,7 +51,7 @@ pub struct Queue {
 
 pub struct Mailbox {
     pub defined: bool,
-    // 1 is added for waiters by task priority, 2 for messages by priority.
+    // A sum: 1 where waiters go by task priority, 2 where messages go by theirs.
     pub attribute: u8,
     // Kept with attribute 2 or 3 alone.
     pub highest: u8,
@@ -59,7 +59,7 @@ pub struct Mailbox {
 
 // ── Tasks ──
 
-// Whether an end tick is 1 to 2,147,483,646 ticks away.
+// Whether an end is ahead, and not too far.
 fn end_sound(end: End, counter: u32) -> bool
     ensures { λ r. ⌜ Whether (EndAhead counter 1 end) r ⌝ }
 {
@@ -72,7 +72,7 @@ fn end_sound(end: End, counter: u32) -> bool
     }
 }
 
-// Whether an object's number is from 1 to 16 and `standing` is the chain that has this number behind `before` others.
+// Whether an object has this number, and `standing` is its chain: there are `before` chains of other kinds before those of its kind.
 fn names_chain(standing: u8, before: u8, number: u8) -> bool
     ensures { λ r. ⌜ Whether (NamesChain standing before number) r ⌝ }
 {
@@ -182,8 +182,8 @@ fn in_order_if<'a>(
 }
 
 // Whether those that wait at a data queue may do so. Its head sender and head receiver are 0 for none.
-fn waits_sound(count: u8, capacity: u8, sender: u8, receiver: u8) -> bool
-    ensures { λ r. ⌜ Whether (WaitsSound count capacity sender receiver) r ⌝ }
+fn may_wait(count: u8, capacity: u8, sender: u8, receiver: u8) -> bool
+    ensures { λ r. ⌜ Whether (MayWait count capacity sender receiver) r ⌝ }
 {
     if sender != 0 {
         return (count == capacity) & (receiver == 0);
@@ -207,9 +207,10 @@ pub fn queue_sound<'a>(
     let count = queue.ring.count;
     let capacity = queue.ring.capacity;
     if queue.defined {
-        if !((attribute <= 1)
-            & ring::in_range(queue.ring.head, count, capacity)
-            & waits_sound(count, capacity, sender, receiver)) {
+        if !((attribute <= 1) & ring::in_range(queue.ring.head, count, capacity)) {
+            return false;
+        }
+        if !may_wait(count, capacity, sender, receiver) {
             return false;
         }
         return in_order_if(link, key, TASKS, TASK_CHAINS, number, attribute == 1, 16);
@@ -218,8 +219,8 @@ pub fn queue_sound<'a>(
 }
 
 // Whether a mailbox's numbers are in range.
-fn numbers_sound(attribute: u8, highest: u8) -> bool
-    ensures { λ r. ⌜ Whether (NumbersSound attribute highest) r ⌝ }
+fn mailbox_numbers_sound(attribute: u8, highest: u8) -> bool
+    ensures { λ r. ⌜ Whether (MailboxNumbersSound attribute highest) r ⌝ }
 {
     if attribute < 2 {
         return true;
@@ -244,7 +245,10 @@ pub fn mailbox_sound<'a>(
     let attribute = mailbox.attribute;
     let highest = mailbox.highest;
     if mailbox.defined {
-        if !(numbers_sound(attribute, highest) & ((waiter == 0) | (message == 0))) {
+        if !mailbox_numbers_sound(attribute, highest) {
+            return false;
+        }
+        if !((waiter == 0) | (message == 0)) {
             return false;
         }
         let by_priority = (attribute == 1) | (attribute == 3);

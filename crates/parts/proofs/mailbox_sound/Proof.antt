@@ -15,47 +15,61 @@ first-requires c κs = search needs
 first-requires-2 : tie.Need-first-requires-2
 first-requires-2 c κs = search needs
 
-numbers-sound-requires : tie.Need-numbers-sound-requires
-numbers-sound-requires c κs = search needs
+mailbox-numbers-sound-requires : tie.Need-mailbox-numbers-sound-requires
+mailbox-numbers-sound-requires c κs = search needs
 
 returns : tie.Need-returns
 returns c =
-    let taken = c .before .before in
+    let numbers = c .before in
+    let taken = numbers .before in
     let heads = taken .before in
     let start = heads .before .before in
     defined-mailbox (start .args .mailbox) (start .pre) (heads .before .first .ensures) (heads .first2 .ensures) (taken .if1 .taken)
-    (stops (is-and (c .before .numbers-sound .ensures) (is-or (is-eqb _ _) (is-eqb _ _))) (c .if2 .taken))
+    (stops (numbers .mailbox-numbers-sound .ensures) (c .if2 .taken))
+
+returns-2 : tie.Need-returns-2
+returns-2 c =
+    let numbers = c .before .before in
+    let taken = numbers .before in
+    let heads = taken .before in
+    let start = heads .before .before in
+    defined-mailbox (start .args .mailbox) (start .pre) (heads .before .first .ensures) (heads .first2 .ensures) (taken .if1 .taken)
+    (goes-on (numbers .mailbox-numbers-sound .ensures) (c .before .if2 .left) (stops (is-or (is-eqb _ _) (is-eqb _ _)) (c .if3 .taken)))
 
 add-in-order-if : tie.Need-add-in-order-if
 add-in-order-if c = search needs
 
 in-order-if-requires : tie.Need-in-order-if-requires
-in-order-if-requires c κs = (search needs, c .before .before .before .before .before .pre .keys-count)
+in-order-if-requires c κs = (search needs, c .before .before .before .before .before .before .pre .keys-count)
 
-returns-2 : tie.Need-returns-2
-returns-2 c =
-    let on = c .before .before in
-    let taken = on .before .before in
+returns-3 : tie.Need-returns-3
+returns-3 c =
+    let waits = c .before .before in
+    let numbers = waits .before .before in
+    let taken = numbers .before in
     let heads = taken .before in
     let start = heads .before .before in
     defined-mailbox (start .args .mailbox) (start .pre) (heads .before .first .ensures) (heads .first2 .ensures) (taken .if1 .taken)
-    (goes-on (is-and (on .before .numbers-sound .ensures) (is-or (is-eqb _ _) (is-eqb _ _))) (on .if2 .left) (stops (c .before .in-order-if .ensures) (c .if3 .taken)))
+    (goes-on (numbers .mailbox-numbers-sound .ensures) (waits .before .if2 .left)
+    (goes-on (is-or (is-eqb _ _) (is-eqb _ _)) (waits .if3 .left) (stops (c .before .in-order-if .ensures) (c .if4 .taken))))
 
 in-order-if-requires-2 : tie.Need-in-order-if-requires-2
 in-order-if-requires-2 c κs = search needs
 
-returns-3 : tie.Need-returns-3
-returns-3 c =
-    let on = c .before .before .before in
-    let taken = on .before .before in
+returns-4 : tie.Need-returns-4
+returns-4 c =
+    let order = c .before .before in
+    let waits = order .before in
+    let numbers = waits .before .before in
+    let taken = numbers .before in
     let heads = taken .before in
     let start = heads .before .before in
     defined-mailbox (start .args .mailbox) (start .pre) (heads .before .first .ensures) (heads .first2 .ensures) (taken .if1 .taken)
-    (goes-on (is-and (on .before .numbers-sound .ensures) (is-or (is-eqb _ _) (is-eqb _ _))) (on .if2 .left)
-    (goes-on (c .before .before .in-order-if .ensures) (c .before .if3 .left) (c .in-order-if2 .ensures)))
+    (goes-on (numbers .mailbox-numbers-sound .ensures) (waits .before .if2 .left)
+    (goes-on (is-or (is-eqb _ _) (is-eqb _ _)) (waits .if3 .left) (goes-on (order .in-order-if .ensures) (c .before .if4 .left) (c .in-order-if2 .ensures))))
 
-returns-4 : tie.Need-returns-4
-returns-4 c =
+returns-5 : tie.Need-returns-5
+returns-5 c =
     let heads = c .before in
     let start = heads .before .before in
     undefined-mailbox (start .args .mailbox) (start .pre) (heads .before .first .ensures) (heads .first2 .ensures) (c .if1 .left) (is-and (is-eqb _ _) (is-eqb _ _))
@@ -67,11 +81,12 @@ mailbox-sound-spec =
     add-first
     first-requires
     first-requires-2
-    numbers-sound-requires
+    mailbox-numbers-sound-requires
     returns
+    returns-2
     add-in-order-if
     in-order-if-requires
-    returns-2
-    in-order-if-requires-2
     returns-3
-    returns-4)
+    in-order-if-requires-2
+    returns-4
+    returns-5)

@@ -18,32 +18,44 @@ first-requires-2 c κs = search needs
 in-range-requires : tie.Need-in-range-requires
 in-range-requires c κs = search needs
 
-waits-sound-requires : tie.Need-waits-sound-requires
-waits-sound-requires c κs = search needs
-
 returns : tie.Need-returns
 returns c =
-    let tested = c .before in
-    let taken = tested .before .before in
+    let ranges = c .before in
+    let taken = ranges .before in
     let heads = taken .before in
     let start = heads .before .before in
     defined-queue (start .args .queue) (start .pre) (heads .before .first .ensures) (heads .first2 .ensures) (taken .if1 .taken)
-    (stops (is-and (is-and (is-leb _ _) (tested .before .in-range .ensures)) (tested .waits-sound .ensures)) (c .if2 .taken))
+    (stops (is-and (is-leb _ _) (ranges .in-range .ensures)) (c .if2 .taken))
 
-in-order-if-requires : tie.Need-in-order-if-requires
-in-order-if-requires c κs = (search needs, c .before .before .before .before .before .before .pre .keys-count)
+may-wait-requires : tie.Need-may-wait-requires
+may-wait-requires c κs = search needs
 
 returns-2 : tie.Need-returns-2
 returns-2 c =
-    let tested = c .before .before in
-    let taken = tested .before .before in
+    let on = c .before .before in
+    let ranges = on .before in
+    let taken = ranges .before in
     let heads = taken .before in
     let start = heads .before .before in
     defined-queue (start .args .queue) (start .pre) (heads .before .first .ensures) (heads .first2 .ensures) (taken .if1 .taken)
-    (goes-on (is-and (is-and (is-leb _ _) (tested .before .in-range .ensures)) (tested .waits-sound .ensures)) (c .before .if2 .left) (c .in-order-if .ensures))
+    (goes-on (is-and (is-leb _ _) (ranges .in-range .ensures)) (on .if2 .left) (stops (c .before .may-wait .ensures) (c .if3 .taken)))
+
+in-order-if-requires : tie.Need-in-order-if-requires
+in-order-if-requires c κs = (search needs, c .before .before .before .before .before .before .before .pre .keys-count)
 
 returns-3 : tie.Need-returns-3
 returns-3 c =
+    let waits = c .before .before in
+    let on = waits .before in
+    let ranges = on .before in
+    let taken = ranges .before in
+    let heads = taken .before in
+    let start = heads .before .before in
+    defined-queue (start .args .queue) (start .pre) (heads .before .first .ensures) (heads .first2 .ensures) (taken .if1 .taken)
+    (goes-on (is-and (is-leb _ _) (ranges .in-range .ensures)) (on .if2 .left) (goes-on (waits .may-wait .ensures) (c .before .if3 .left) (c .in-order-if .ensures)))
+
+returns-4 : tie.Need-returns-4
+returns-4 c =
     let heads = c .before in
     let start = heads .before .before in
     undefined-queue (start .args .queue) (start .pre) (heads .before .first .ensures) (heads .first2 .ensures) (c .if1 .left)
@@ -57,8 +69,9 @@ queue-sound-spec =
     add-first
     first-requires-2
     in-range-requires
-    waits-sound-requires
     returns
-    in-order-if-requires
+    may-wait-requires
     returns-2
-    returns-3)
+    in-order-if-requires
+    returns-3
+    returns-4)

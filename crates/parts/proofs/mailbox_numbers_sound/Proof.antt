@@ -1,10 +1,10 @@
--- `numbers_sound` is exact: by whether the attribute is below 2 its tests say what `NumbersSound` says.
+-- `mailbox_numbers_sound` is exact: by whether the attribute is below 2 its tests say what `MailboxNumbersSound` says.
 use mathlib.Core.Logic.{inl, inr, ⊎-elim}
 use native.Mathlib.Omega.{arith}
 use Rattle.lists.specs.Tests.{holds}
 use Rattle.lists.proofs.Tests.{is-map, is-and, is-leb}
-use Rattle.parts.proofs.numbers_sound.Statement.{statement}
-use Rattle.parts.proofs.numbers_sound.Tie as tie
+use Rattle.parts.proofs.mailbox_numbers_sound.Statement.{statement}
+use Rattle.parts.proofs.mailbox_numbers_sound.Tie as tie
 
 returns : tie.Need-returns
 returns c = let below = c .if1 .taken in holds (record { attribute-in-range = omega arith; highest-in-range = inl below })
@@ -17,5 +17,5 @@ returns-2 c =
     (λ n. ⊎-elim (λ below. absurd (omega arith)) (λ h. ((n .attribute-in-range, h .0), h .1)) (n .highest-in-range))
     (is-and (is-and (is-leb _ _) (is-leb _ _)) (is-leb _ _))
 
-pub numbers-sound-spec : {M : Type 1} → statement M
-numbers-sound-spec = tie.close (tie.spec returns returns-2)
+pub mailbox-numbers-sound-spec : {M : Type 1} → statement M
+mailbox-numbers-sound-spec = tie.close (tie.spec returns returns-2)

@@ -1,8 +1,8 @@
--- `waits_sound` is exact: by whether there is a sender its tests say what `WaitsSound` says.
+-- `may_wait` is exact: by whether there is a sender its tests say what `MayWait` says.
 use mathlib.Core.Logic.{inl, inr, ⊎-elim}
 use Rattle.lists.proofs.Tests.{is-map, is-and, is-or, is-eqb}
-use Rattle.parts.proofs.waits_sound.Statement.{statement}
-use Rattle.parts.proofs.waits_sound.Tie as tie
+use Rattle.parts.proofs.may_wait.Statement.{statement}
+use Rattle.parts.proofs.may_wait.Tie as tie
 
 returns : tie.Need-returns
 returns c =
@@ -18,5 +18,5 @@ returns-2 c =
     (λ w. w .receivers)
     (is-or (is-eqb _ _) (is-eqb _ _))
 
-pub waits-sound-spec : {M : Type 1} → statement M
-waits-sound-spec = tie.close (tie.spec returns returns-2)
+pub may-wait-spec : {M : Type 1} → statement M
+may-wait-spec = tie.close (tie.spec returns returns-2)
