@@ -1,7 +1,5 @@
 -- `four_empty` is exact: it compares each of the four heads with 0.
-use mathlib.Core.Path.{_≡_}
 use native.Mathlib.Omega.{arith}
-use borrow.Author.Needs.{needs}
 use Rattle.lists.specs.Tests.{fails}
 use Rattle.lists.proofs.Tests.{is-map, is-eqb, is-and}
 use Rattle.chain.proofs.four_empty.Statement.{statement}
