@@ -32,9 +32,9 @@ mailbox-row x waiters messages = record {
 -- Mailbox b, with the cells and keys of the tables of waiting tasks and of queued messages.
 pub record MailboxSound (x : Mailbox) (link key message-link message-key : List ℕ) (b : ℕ) : Type 0 where
   pub row : MailboxWellFormed (mailbox-row x (tasks-in link (waiters-of b)) (messages-in message-link b))
-  -- A wait queue by priority has no larger number before a smaller.
+  -- By priority, the waiters' numbers never fall.
   pub waiters-in-order : T (waiters-by-priority (kept-attribute x)) → InOrder 1 priority-limit (keys-of key (tasks-in link (waiters-of b)))
-  -- Nor has a message queue by priority, and each kept priority is 1 to the mailbox's highest.
+  -- Nor do the messages', and each of them is from 1 to the mailbox's highest.
   pub messages-in-order : T (messages-by-priority (kept-attribute x)) → InOrder 1 (x .highest) (keys-of message-key (messages-in message-link b))
 
 -- What the test asks: both tables are sound, and the number is a mailbox's.

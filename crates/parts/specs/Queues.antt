@@ -29,10 +29,10 @@ queue-row x senders receivers = record {
 
 -- Queue q, with the cells and keys of the table of waiting tasks.
 pub record QueueSound (x : Queue) (link key : List ℕ) (q : ℕ) : Type 0 where
-  -- Numbers are in range: those of a defined queue's ring.
+  -- The ring of a queue that is defined has its numbers in range.
   pub ring : T (x .defined) → InRange (x .ring)
   pub row : QueueWellFormed (queue-row x (tasks-in link (senders-of q)) (tasks-in link (receivers-of q)))
-  -- A wait queue by priority has no larger number before a smaller.
+  -- By priority, the senders' numbers never fall.
   pub senders-in-order : T (senders-by-priority (cond (x .defined) (x .attribute) 0)) → InOrder 1 priority-limit (keys-of key (tasks-in link (senders-of q)))
 
 -- What the test asks: the table is sound, and the number is a queue's.

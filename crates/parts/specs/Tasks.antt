@@ -1,4 +1,4 @@
--- Document 01, "A sound record", of one task: its row, and what the test of it decides.
+-- Document 01, "A sound record", of one task: its row, and what the test of it decides ("sound" is that document's word).
 use mathlib.Core.Path.{_≡_}
 use mathlib.Core.Bool.{cond}
 use Prim.Native.Nat.{ℕ, _+_, _≤_}
@@ -18,7 +18,7 @@ task-row x priority = record { defined = x .defined; priority = cond (x .defined
 pub record TaskSound (counter priority standing : ℕ) (x : Task) : Type 0 where
   -- The task stands in the chain that its wait names, or in none.
   pub stands : wait-chain (x .wait) ≡ standing
-  -- An undefined task has no suspension.
+  -- Only a task that is defined is suspended.
   pub suspension : T (x .suspended) → T (x .defined)
   pub row : TaskWellFormed counter 1 (task-row x priority)
 

@@ -152,7 +152,7 @@ fn task_at(record: &[u8; RECORD], at: usize) -> Task
     }
 }
 
-// All tasks.
+// All tasks, and cell 0, in which anything may stand.
 fn tasks_of(record: &[u8; RECORD]) -> [Task; 33] {
     let first = task_at(record, TASKS);
     let mut tasks = [first; 33];
@@ -189,7 +189,7 @@ fn queue_at(record: &[u8; RECORD], at: usize) -> Queue
     }
 }
 
-// All data queues.
+// All data queues, and cell 0.
 fn queues_of(record: &[u8; RECORD]) -> [Queue; 17] {
     let first = queue_at(record, QUEUES);
     let mut queues = [first; 17];
@@ -216,7 +216,7 @@ fn mailbox_at(record: &[u8; RECORD], at: usize) -> Mailbox
     }
 }
 
-// All mailboxes.
+// All mailboxes, and cell 0.
 fn mailboxes_of(record: &[u8; RECORD]) -> [Mailbox; 17] {
     let first = mailbox_at(record, MAILBOXES);
     let mut mailboxes = [first; 17];
