@@ -115,33 +115,33 @@ module _ (s : State) (p : Parts s) where
 -- ── To the parts ──
 
 module _ (s : State) (S : Sound s) where
-  wf : WellFormedRows (s .counter) (λ t. 1) (abs s .rows)
+  well-formed-rows : WellFormedRows (s .counter) (λ t. 1) (abs s .rows)
   unfolding abs
-  wf = S .well-formed .rows
+  well-formed-rows = S .well-formed .rows
 
   sound-task : (t : ℕ) → T (valid (task t)) → TaskAt s t
   sound-task t v = record {
-    stands = stands-from s (S .waiting) (wf .waiting) t v;
-    suspension = λ h. subst (λ (x : TaskRow). T (x .defined)) (row-is s (task t) v) (wf .suspensions t (subst T (sym (row-is s (suspension t) v)) h));
-    row = subst (λ x. TaskWellFormed (s .counter) 1 x) (row-is s (task t) v) (wf .tasks t);
+    stands = stands-from s (S .waiting) (well-formed-rows .waiting) t v;
+    suspension = λ h. subst (λ (x : TaskRow). T (x .defined)) (row-is s (task t) v) (well-formed-rows .suspensions t (subst T (sym (row-is s (suspension t) v)) h));
+    row = subst (λ x. TaskWellFormed (s .counter) 1 x) (row-is s (task t) v) (well-formed-rows .tasks t);
   }
 
   keys-ordered : (k : WaitQueue) → T (valid (object-of k)) → T (by-priority (abs s .rows) k) → InOrder 1 priority-limit (keys-of (s .waiting .key) (tasks-in (s .waiting .link) k))
-  keys-ordered k v o = subst (λ l. InOrder 1 priority-limit l) (priorities-are s (S .waiting) (wf .tasks) (wf .waiting) k v) (wf .waiting-in-order k o)
+  keys-ordered k v o = subst (λ l. InOrder 1 priority-limit l) (priorities-are s (S .waiting) (well-formed-rows .tasks) (well-formed-rows .waiting) k v) (well-formed-rows .waiting-in-order k o)
 
   sound-queue : (q : ℕ) → T (valid (queue q)) → QueueAt s q
   sound-queue q v = record {
     ring = S .rings q v;
-    row = subst QueueWellFormed (row-is s (queue q) v) (wf .queues q);
+    row = subst QueueWellFormed (row-is s (queue q) v) (well-formed-rows .queues q);
     senders-in-order = λ o. keys-ordered (senders-of q) v (subst (λ (x : QueueRow). T (senders-by-priority (x .attribute))) (sym (row-is s (queue q) v)) o);
   }
 
   sound-mailbox : (b : ℕ) → T (valid (mailbox b)) → MailboxAt s b
   sound-mailbox b v = record {
-    row = subst MailboxWellFormed (row-is s (mailbox b) v) (wf .mailboxes b);
+    row = subst MailboxWellFormed (row-is s (mailbox b) v) (well-formed-rows .mailboxes b);
     waiters-in-order = λ o. keys-ordered (waiters-of b) v (subst (λ (x : MailboxRow). T (waiters-by-priority (x .attribute))) (sym (row-is s (mailbox b) v)) o);
     messages-in-order = λ o. rw (highest-is s b v o, kept-priorities-are s (S .messages) b v o)
-        at (wf .queued-in-order b (subst (λ (x : MailboxRow). T (messages-by-priority (x .attribute))) (sym (row-is s (mailbox b) v)) o));
+        at (well-formed-rows .queued-in-order b (subst (λ (x : MailboxRow). T (messages-by-priority (x .attribute))) (sym (row-is s (mailbox b) v)) o));
   }
 
   pub sound-parts : Parts s

@@ -23,14 +23,14 @@ use Rattle.model.proofs.After.{After, after-return, after-put, after-en
 
 -- A task that isn't able waits somewhere.
 pub record Somewhere (x : Wait) : Type 0 where
-  pub place : WaitQueue
-  pub named : wait-queue x ≡ some place
+  pub queue-named : WaitQueue
+  pub named : wait-queue x ≡ some queue-named
 
 pub waits-somewhere : (x : Wait) → T (not (able x)) → Somewhere x
 waits-somewhere NoWait t = absurd t
-waits-somewhere (Sending q end word) t = record { place = senders-of q; named = refl }
-waits-somewhere (Receiving q end) t = record { place = receivers-of q; named = refl }
-waits-somewhere (AtMailbox b end) t = record { place = waiters-of b; named = refl }
+waits-somewhere (Sending q end word) t = record { queue-named = senders-of q; named = refl }
+waits-somewhere (Receiving q end) t = record { queue-named = receivers-of q; named = refl }
+waits-somewhere (AtMailbox b end) t = record { queue-named = waiters-of b; named = refl }
 
 module _ {counter : ℕ} {soonest : ℕ → ℕ} {m : Program.Rows Row} (w : WellFormedRows counter soonest m) (e : Environment) (v : View) (c : Call) (valid-task : T (valid (task (c .object)))) where
   pub kept-define-task : T (not (m (task (c .object)) .defined)) → 1 ≤ task-priority-of c → task-priority-of c ≤ priority-limit
@@ -53,6 +53,6 @@ pub kept-end-wait : {counter : ℕ} {soonest : ℕ → ℕ} {Q : Program.Rows Ro
     → ((n : Program.Rows Row) → WellFormedRows counter soonest n → n (task t) .wait ≡ NoWait → After Q p n) → After Q (end-wait t code p) m
 kept-end-wait {m = m} w t code p ends waits h =
     let s = waits-somewhere (m (task t) .wait) waits in
-    let rows = set-standing (s .place) (without t (standing-in m (s .place))) m in
-    after-end-wait t code (s .place) p m (s .named)
-    (h _ (leave w t (s .place) code 0 ends (s .named)) (ap (λ (x : TaskRow). x .wait) (update-same same-key (task t) (ended code 0 (m (task t))) rows)))
+    let rows = set-standing (s .queue-named) (without t (standing-in m (s .queue-named))) m in
+    after-end-wait t code (s .queue-named) p m (s .named)
+    (h _ (leave w t (s .queue-named) code 0 ends (s .named)) (ap (λ (x : TaskRow). x .wait) (update-same same-key (task t) (ended code 0 (m (task t))) rows)))

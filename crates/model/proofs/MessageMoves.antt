@@ -34,8 +34,8 @@ names-mailbox b p t = cond-no (eqb b 0) none (some b) (no-eqb (λ (e : b ≡ 0).
 module _ {counter : ℕ} {soonest : ℕ → ℕ} {m : Program.Rows Row} (w : WellFormedRows counter soonest m) (b : ℕ) (valid-mailbox : T (valid (mailbox b))) where
   -- Message g gets the row x, and mailbox b the messages l.
   module _ (g : ℕ) (x : MessageRow) (l : List ℕ) where
-    abbrev box : MailboxRow
-    box = with-messages l (m (mailbox b))
+    abbrev changed-row : MailboxRow
+    changed-row = with-messages l (m (mailbox b))
 
     abbrev rows : ℕ → MessageRow
     rows = changed ℕ-discrete g x (λ j. m (message j))
@@ -46,21 +46,21 @@ module _ {counter : ℕ} {soonest : ℕ → ℕ} {m : Program.Rows Row} (w : Wel
     own-name : named-mailbox (rows g) ≡ named-mailbox x
     own-name = ap named-mailbox (update-same ℕ-discrete g x (λ j. m (message j)))
 
-    other-lists : (j : ℕ) → j ≢ b → update same-key (mailbox b) box m (mailbox j) .messages ≡ m (mailbox j) .messages
-    other-lists j n = ap (λ (y : MailboxRow). y .messages) (update-other same-key (mailbox b) box m (mailbox j) (λ e. n (cc)))
+    other-lists : (j : ℕ) → j ≢ b → update same-key (mailbox b) changed-row m (mailbox j) .messages ≡ m (mailbox j) .messages
+    other-lists j n = ap (λ (y : MailboxRow). y .messages) (update-other same-key (mailbox b) changed-row m (mailbox j) (λ e. n (cc)))
 
-    own-list : update same-key (mailbox b) box m (mailbox b) .messages ≡ l
-    own-list = ap (λ (y : MailboxRow). y .messages) (update-same same-key (mailbox b) box m)
+    own-list : update same-key (mailbox b) changed-row m (mailbox b) .messages ≡ l
+    own-list = ap (λ (y : MailboxRow). y .messages) (update-same same-key (mailbox b) changed-row m)
 
-    message-moved : T (valid (message g)) → MailboxWellFormed box → ((k : ℕ) → k ≢ b → named-mailbox (m (message g)) ≡ some k → ⊥)
-        → StandsWhereNamed (λ j. update same-key (mailbox b) box m (mailbox j) .messages) (λ j. named-mailbox (rows j))
+    message-moved : T (valid (message g)) → MailboxWellFormed changed-row → ((k : ℕ) → k ≢ b → named-mailbox (m (message g)) ≡ some k → ⊥)
+        → StandsWhereNamed (λ j. update same-key (mailbox b) changed-row m (mailbox j) .messages) (λ j. named-mailbox (rows j))
         → (T (messages-by-priority (m (mailbox b) .attribute)) → InOrder 1 (m (mailbox b) .highest) (map (λ j. rows j .priority) l))
-        → WellFormedRows counter soonest (update same-key (message g) x (update same-key (mailbox b) box m))
+        → WellFormedRows counter soonest (update same-key (message g) x (update same-key (mailbox b) changed-row m))
     unfolding same-key update
     message-moved valid-message fits only-here stands order =
-        rw (fun-ext same) (put-mailbox w b box rows valid-mailbox fits refl (w .waiting-in-order (waiters-of b)) in-range stands order priorities)
+        rw (fun-ext same) (put-mailbox w b changed-row rows valid-mailbox fits refl (w .waiting-in-order (waiters-of b)) in-range stands order priorities)
       where
-        same : (k : Key) → update same-key (message g) x (update same-key (mailbox b) box m) k ≡ update same-key (mailbox b) box (with-message-rows rows m) k
+        same : (k : Key) → update same-key (message g) x (update same-key (mailbox b) changed-row m) k ≡ update same-key (mailbox b) changed-row (with-message-rows rows m) k
         same (task t) = refl
         same (suspension t) = refl
         same (queue q) = refl
@@ -134,7 +134,7 @@ module _ {counter : ℕ} {soonest : ℕ → ℕ} {m : Program.Rows Row} (w : Wel
       here : named-mailbox (m (message g)) ≡ some b
       here = w .queued .no-other g b (in-head old some-message)
 
-      stands : StandsWhereNamed (λ j. update same-key (mailbox b) (box g free (tail old)) m (mailbox j) .messages) (λ j. named-mailbox (rows g free (tail old) j))
+      stands : StandsWhereNamed (λ j. update same-key (mailbox b) (changed-row g free (tail old)) m (mailbox j) .messages) (λ j. named-mailbox (rows g free (tail old) j))
       stands = stands-leave ℕ-discrete (w .queued) b (other-lists g free (tail old)) g (other-names g free (tail old))
           here (own-name g free (tail old)) (own-list g free (tail old) ∙ sym (without-head old some-message))
 

@@ -96,7 +96,7 @@ pub record TaskWellFormed (counter soonest : ℕ) (x : TaskRow) : Type 0 where
   -- Priority and object are in range.
   pub priority-in-range : T (x .defined) → (1 ≤ x .priority) × (x .priority ≤ priority-limit)
   pub object-in-range : ObjectInRange (x .wait)
-  -- The stored code.
+  -- The stored code is one that a wait can end with.
   pub code : T (ends-a-wait (x .code))
   -- The end tick, where there is one, is ahead and not too far.
   pub end : EndAhead counter soonest (wait-end (x .wait))
