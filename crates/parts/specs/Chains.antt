@@ -1,4 +1,4 @@
--- Whose each chain of the record's two tables is: 48 chains of the 32 tasks and 16 chains of the 64 messages. The code has the same numbers, 16 and 32.
+-- Whose each chain of the record's two tables is: 48 chains of the 32 tasks and 16 chains of the 64 messages. The code has 16 and 32 as RECEIVERS and WAITERS.
 use mathlib.Core.List.{List, []}
 use Prim.Native.Nat.{ℕ, _+_}
 use lib.ListN.{getD}

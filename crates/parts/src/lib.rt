@@ -27,6 +27,11 @@ pub const TASKS: usize = 32;
 
 pub const TASK_CHAINS: usize = 48;
 
+// How many chains come before those of receivers, and before those of a mailbox's waiters.
+pub const RECEIVERS: usize = 16;
+
+pub const WAITERS: usize = 32;
+
 pub const MESSAGES: usize = 64;
 
 pub const MESSAGE_CHAINS: usize = 16;
@@ -96,13 +101,13 @@ fn wait_sound(wait: Wait, standing: u8, counter: u32) -> bool
             end_sound(end, counter)
         }
         Wait::Receiving { queue, end } => {
-            if !names_chain(standing, 16, queue) {
+            if !names_chain(standing, RECEIVERS as u8, queue) {
                 return false;
             }
             end_sound(end, counter)
         }
         Wait::AtMailbox { mailbox, end } => {
-            if !names_chain(standing, 32, mailbox) {
+            if !names_chain(standing, WAITERS as u8, mailbox) {
                 return false;
             }
             end_sound(end, counter)
@@ -202,7 +207,7 @@ pub fn queue_sound<'a>(
     ensures { λ r. ⌜ Whether (QueueSound queue (now (link .entry)) (now (key .entry)) number) r ⌝ }
 {
     let sender = chain::first(link, TASKS, TASK_CHAINS, number);
-    let receiver = chain::first(link, TASKS, TASK_CHAINS, 16 + number);
+    let receiver = chain::first(link, TASKS, TASK_CHAINS, RECEIVERS + number);
     let attribute = queue.attribute;
     let count = queue.ring.count;
     let capacity = queue.ring.capacity;
@@ -240,7 +245,8 @@ pub fn mailbox_sound<'a>(
     requires { ⌜ MailboxTestable number (now link) (now key) (now messages) (now priorities) ⌝ }
     ensures { λ r. ⌜ Whether (MailboxSound mailbox (now (link .entry)) (now (key .entry)) (now (messages .entry)) (now (priorities .entry)) number) r ⌝ }
 {
-    let waiter = chain::first(link, TASKS, TASK_CHAINS, 32 + number);
+    let waiters = WAITERS + number;
+    let waiter = chain::first(link, TASKS, TASK_CHAINS, waiters);
     let message = chain::first(messages, MESSAGES, MESSAGE_CHAINS, number);
     let attribute = mailbox.attribute;
     let highest = mailbox.highest;
@@ -252,7 +258,7 @@ pub fn mailbox_sound<'a>(
             return false;
         }
         let by_priority = (attribute == 1) | (attribute == 3);
-        if !in_order_if(link, key, TASKS, TASK_CHAINS, 32 + number, by_priority, 16) {
+        if !in_order_if(link, key, TASKS, TASK_CHAINS, waiters, by_priority, 16) {
             return false;
         }
         return in_order_if(

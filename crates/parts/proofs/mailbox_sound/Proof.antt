@@ -6,8 +6,8 @@ use Rattle.parts.proofs.Mailboxes.{defined-mailbox, undefined-mailbox}
 use Rattle.parts.proofs.mailbox_sound.Statement.{statement}
 use Rattle.parts.proofs.mailbox_sound.Tie as tie
 
-add-first : tie.Need-add-first
-add-first c = search needs
+add-waiters : tie.Need-add-waiters
+add-waiters c = search needs
 
 first-requires : tie.Need-first-requires
 first-requires c κs = search needs
@@ -35,9 +35,6 @@ returns-2 c =
     let start = heads .before .before in
     defined-mailbox (start .args .mailbox) (start .pre) (heads .before .first .ensures) (heads .first2 .ensures) (taken .if1 .taken)
     (goes-on (numbers .mailbox-numbers-sound .ensures) (c .before .if2 .left) (stops (is-or (is-eqb _ _) (is-eqb _ _)) (c .if3 .taken)))
-
-add-in-order-if : tie.Need-add-in-order-if
-add-in-order-if c = search needs
 
 in-order-if-requires : tie.Need-in-order-if-requires
 in-order-if-requires c κs = (search needs, c .before .before .before .before .before .before .pre .keys-count)
@@ -78,13 +75,12 @@ pub mailbox-sound-spec : {M : Type 1} → statement M
 mailbox-sound-spec =
     tie.close
     (tie.spec
-    add-first
+    add-waiters
     first-requires
     first-requires-2
     mailbox-numbers-sound-requires
     returns
     returns-2
-    add-in-order-if
     in-order-if-requires
     returns-3
     in-order-if-requires-2

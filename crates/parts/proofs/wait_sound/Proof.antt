@@ -26,6 +26,9 @@ end-sound-requires c κs = search needs
 enum-known-wait-2 : tie.Need-enum-known-wait-2
 enum-known-wait-2 c = search needs
 
+cast-names-chain : tie.Need-cast-names-chain
+cast-names-chain c = omega arith
+
 names-chain-requires-2 : tie.Need-names-chain-requires-2
 names-chain-requires-2 c κs = search needs
 
@@ -37,6 +40,9 @@ end-sound-requires-2 c κs = search needs
 
 enum-known-wait-3 : tie.Need-enum-known-wait-3
 enum-known-wait-3 c = search needs
+
+cast-names-chain-2 : tie.Need-cast-names-chain-2
+cast-names-chain-2 c = omega arith
 
 names-chain-requires-3 : tie.Need-names-chain-requires-3
 names-chain-requires-3 c κs = search needs
@@ -69,10 +75,12 @@ wait-sound-spec =
     returns
     end-sound-requires
     enum-known-wait-2
+    cast-names-chain
     names-chain-requires-2
     returns-2
     end-sound-requires-2
     enum-known-wait-3
+    cast-names-chain-2
     names-chain-requires-3
     returns-3
     end-sound-requires-3
