@@ -3,13 +3,10 @@ use mathlib.Core.Path.{_≡_, sym, subst}
 use Prim.Native.Nat.{ℕ, _+_, _<_, _≤_}
 use native.Mathlib.Omega.{arith}
 use native.Mathlib.Decide.{ℕ-discrete}
-use lib.Dec.{T}
 use lib.ListN.{getD}
-use mathlib.Core.Bool.{Bool, true, false, not}
+use mathlib.Core.Bool.{Bool}
 use mathlib.Core.List.{List}
-use borrow.Author.Tests.{not-true, not-false}
 use Rattle.lists.specs.Tests.{Whether}
-use Rattle.lists.proofs.Tests.{passed-test, passes-test}
 use Rattle.chain.specs.Table.{chain-of}
 use Rattle.chain.specs.Table as chain
 use Rattle.model.specs.Sizes.{task-limit, queue-limit, mailbox-limit, message-limit, counter-span}
@@ -23,13 +20,6 @@ use Rattle.kernel.specs.Meaning.{task-at}
 use Rattle.kernel.specs.Sound.{Sizes}
 use Rattle.kernel.proofs.Standing.{task-lists}
 use Rattle.kernel.proofs.Parts.{TaskAt, QueueAt, MailboxAt, Parts}
-
--- What an exact test says where its caller goes on, and where it stops.
-pub went-on : {P : Type 0} {b : Bool} → Whether P b → not b ≡ false → P
-went-on {b = b} w e = passed-test w (subst T (sym (not-false b e)) tt)
-
-pub stopped : {P : Type 0} {b : Bool} → Whether P b → not b ≡ true → P → ⊥
-stopped {b = b} w e p = subst T (not-true b e) (passes-test w p)
 
 -- P holds of every number from 1 on and below a limit.
 pub record Below (P : ℕ → Type 0) (limit : ℕ) : Type 0 where

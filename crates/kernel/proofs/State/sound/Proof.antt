@@ -6,11 +6,12 @@ use lib.ListN.{length-map}
 use borrow.Author.Needs.{needs}
 use borrow.Author.Tests.{not-false}
 use Rattle.lists.specs.Tests.{holds, fails}
+use Rattle.lists.proofs.Tests.{stopped, went-on}
 use Rattle.model.specs.Sizes.{task-limit, queue-limit, mailbox-limit}
 use Rattle.model.proofs.Tests.{to-within}
 use Rattle.kernel.specs.Sound.{Sizes}
 use Rattle.kernel.proofs.Parts.{TaskAt, QueueAt, MailboxAt, sound-parts, parts-sound}
-use Rattle.kernel.proofs.Testing.{went-on, stopped, Below, below-none, below-more, Walked, Marked, queue-testable, mailbox-testable, task-tested, tested-parts}
+use Rattle.kernel.proofs.Testing.{Below, below-none, below-more, Walked, Marked, queue-testable, mailbox-testable, task-tested, tested-parts}
 use Rattle.kernel.proofs.State.sound.Statement.{statement}
 use Rattle.kernel.proofs.State.sound.Tie as tie
 
