@@ -15,10 +15,10 @@ use Rattle.model.specs.Codes.{Code}
 use Rattle.model.specs.Waits.{Wait, NoWait, Sending, Receiving, AtMailbox, ended}
 use Rattle.model.specs.WaitQueues.{take-out, end-wait}
 use Rattle.model.specs.Mailboxes.{free-messages}
-use Rattle.model.specs.WellFormed.{WaitQueue, senders-of, receivers-of, waiters-of, standing-in, wait-queue, WellFormedRows}
+use Rattle.model.specs.WellFormed.{WaitQueue, senders-of, receivers-of, waiters-of, standing-in, wait-queue, WellFormedRows, set-standing}
 use Rattle.model.specs.declared.Answer.{Answer}
 use Rattle.model.proofs.Choices.{cond-both}
-use Rattle.model.proofs.Standing.{message-cases, set-standing}
+use Rattle.model.proofs.Standing.{message-cases}
 use Rattle.model.proofs.RowMoves.{with-message-rows, freed, own-messages}
 
 -- Q holds of the rows and the answer that the program leaves.
@@ -82,3 +82,10 @@ module _ {Q : Program.Rows Row → Answer → Type 0} where
       same (mailbox b) = refl
       same (message j) = message-cases g m (λ i y. cond (eqb i g || one-of i gs) free (m (message i)) ≡ cond (one-of i gs) free y)
           free (rw (eq-eqb g g refl) (sym (cond-both (one-of g gs) free free refl (λ n. refl)))) j (λ n. rw (ne-eqb j g n))
+
+-- What a program leaves, read off such a proof.
+pub leads : (p q : Effect) (m n : Program.Rows Row) → After (λ o a. record { state = o; answer = a } ≡ run same-key q n) p m → run same-key p m ≡ run same-key q n
+leads p q m n h = h .holds
+
+pub leads-here : (q : Effect) (n : Program.Rows Row) → After (λ o a. record { state = o; answer = a } ≡ run same-key q n) q n
+leads-here q n = record { holds = refl }

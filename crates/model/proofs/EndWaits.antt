@@ -15,9 +15,9 @@ use Rattle.model.specs.Rows.{task, mailbox, same-key, Row, Effect}
 use Rattle.model.specs.Codes.{Code}
 use Rattle.model.specs.Waits.{ended}
 use Rattle.model.specs.WaitQueues.{end-waits}
-use Rattle.model.specs.WellFormed.{WaitQueue, standing-in, wait-queue, ends-a-wait, WellFormedRows}
+use Rattle.model.specs.WellFormed.{WaitQueue, standing-in, wait-queue, ends-a-wait, WellFormedRows, set-standing}
 use Rattle.model.specs.declared.Answer.{Answer}
-use Rattle.model.proofs.Standing.{same-queue, changed, set-standing, set-standing-is}
+use Rattle.model.proofs.Standing.{same-queue, changed, set-standing-is}
 use Rattle.model.proofs.WaitMoves.{standing-moved, leave}
 use Rattle.model.proofs.After.{After, after-end-wait}
 
@@ -30,13 +30,13 @@ pub record Emptied (c : WaitQueue) (m n : Program.Rows Row) : Type 0 where
 module _ (code : Code) where
   -- The rows after one wait has ended.
   module _ (m : Program.Rows Row) (c : WaitQueue) (l : List ℕ) (t : ℕ) where
-    abbrev left : Program.Rows Row
+    abbrev pub left : Program.Rows Row
     left = update same-key (task t) (ended code 0 (m (task t))) (set-standing c l m)
 
-    standing-left : (d : WaitQueue) → standing-in left d ≡ changed same-queue c l (standing-in m) d
+    pub standing-left : (d : WaitQueue) → standing-in left d ≡ changed same-queue c l (standing-in m) d
     standing-left d = rw (set-standing-is c l m) (standing-moved m c l t (ended code 0 (m (task t))) d)
 
-    messages-left : (b : ℕ) → left (mailbox b) .messages ≡ m (mailbox b) .messages
+    pub messages-left : (b : ℕ) → left (mailbox b) .messages ≡ m (mailbox b) .messages
     unfolding same-key update
     messages-left b = rw (set-standing-is c l m)
 

@@ -18,9 +18,8 @@ use Rattle.model.specs.Calls.{Call, View, highest-of}
 use Rattle.model.specs.Waits.{End, AtMailbox}
 use Rattle.model.specs.WaitQueues.{place, release}
 use Rattle.model.specs.Mailboxes.{deliver-message, queue-message, take-message, wait-for-message, send-message, receive-message, cre-mbx, del-mbx}
-use Rattle.model.specs.WellFormed.{waiters-of, WellFormedRows}
+use Rattle.model.specs.WellFormed.{waiters-of, WellFormedRows, set-standing}
 use Rattle.model.proofs.Choices.{cond-yes}
-use Rattle.model.proofs.Standing.{set-standing}
 use Rattle.model.proofs.WaitMoves.{defined-mailbox, leave-head, join}
 use Rattle.model.proofs.RowMoves.{with-message-rows, freed}
 use Rattle.model.proofs.MessageMoves.{join-message, take-head, replace-mailbox, new-mailbox}

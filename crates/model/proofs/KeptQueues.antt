@@ -20,9 +20,9 @@ use Rattle.model.specs.Calls.{Call, View, capacity-of}
 use Rattle.model.specs.Waits.{End, NoWait, Sending, Receiving, held-word, ended}
 use Rattle.model.specs.WaitQueues.{place, release}
 use Rattle.model.specs.DataQueues.{deliver, store, replace-oldest, wait-to-send, send, take-oldest, take-oldest-and-refill, take-from-sender, wait-to-receive, receive, cre-dtq, del-dtq}
-use Rattle.model.specs.WellFormed.{senders-of, receivers-of, EndAhead, QueueWellFormed, WellFormedRows}
+use Rattle.model.specs.WellFormed.{senders-of, receivers-of, EndAhead, QueueWellFormed, WellFormedRows, set-standing}
 use Rattle.model.proofs.Choices.{cond-yes}
-use Rattle.model.proofs.Standing.{put-twice, set-standing}
+use Rattle.model.proofs.Standing.{put-twice}
 use Rattle.model.proofs.WaitMoves.{defined-queue, leave-head, join}
 use Rattle.model.proofs.RowMoves.{put-queue}
 use Rattle.model.proofs.After.{After, after-return, after-get, after-put, after-if, after-get-each, Kept}

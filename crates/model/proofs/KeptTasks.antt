@@ -14,9 +14,8 @@ use Rattle.model.specs.Calls.{Call, View, task-priority-of}
 use Rattle.model.specs.Waits.{Wait, NoWait, Sending, Receiving, AtMailbox, able, ended}
 use Rattle.model.specs.WaitQueues.{end-wait}
 use Rattle.model.specs.Tasks.{define-task, sus-tsk, rsm-tsk}
-use Rattle.model.specs.WellFormed.{WaitQueue, senders-of, receivers-of, waiters-of, standing-in, wait-queue, ends-a-wait, WellFormedRows}
+use Rattle.model.specs.WellFormed.{WaitQueue, senders-of, receivers-of, waiters-of, standing-in, wait-queue, ends-a-wait, WellFormedRows, set-standing}
 use Rattle.model.specs.declared.Answer.{Answer}
-use Rattle.model.proofs.Standing.{set-standing}
 use Rattle.model.proofs.WaitMoves.{leave}
 use Rattle.model.proofs.RowMoves.{put-task, put-suspension}
 use Rattle.model.proofs.After.{After, after-return, after-put, after-end-wait, Kept}

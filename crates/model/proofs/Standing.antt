@@ -11,7 +11,7 @@ use Rattle.rows.specs.Program as Program
 use Rattle.rows.specs.Program.{update}
 use Rattle.rows.proofs.Update.{update-same, update-other, update-cases}
 use Rattle.model.specs.Rows.{Key, task, suspension, queue, mailbox, message, same-key, valid, Row, TaskRow, QueueRow, MailboxRow, MessageRow, nothing, with-senders, with-receivers, with-waiters}
-use Rattle.model.specs.WellFormed.{WaitQueue, senders-of, receivers-of, waiters-of, WaitQueue-discrete, standing-in}
+use Rattle.model.specs.WellFormed.{WaitQueue, senders-of, receivers-of, waiters-of, WaitQueue-discrete, standing-in, set-standing}
 
 -- Decides whether two wait queues are the same.
 unfoldable pub same-queue : Discrete WaitQueue
@@ -57,12 +57,6 @@ pub put-in-range : {m : Program.Rows Row} → ((k : Key) → T (not (valid k)) �
 put-in-range {m} h k v t j = update-cases same-key (λ i x. T (not (valid i)) → x ≡ nothing i) k v m (λ n. absurd (T-not (valid k) n t)) j (λ d. h j)
 
 -- ── Wait queues ──
-
--- The rows with this list as the wait queue, as programs write it.
-unfoldable pub set-standing : WaitQueue → List ℕ → Program.Rows Row → Program.Rows Row
-set-standing (senders-of q) l m = update same-key (queue q) (with-senders l (m (queue q))) m
-set-standing (receivers-of q) l m = update same-key (queue q) (with-receivers l (m (queue q))) m
-set-standing (waiters-of b) l m = update same-key (mailbox b) (with-waiters l (m (mailbox b))) m
 
 -- The rows with these wait queues.
 abbrev pub with-standing : (WaitQueue → List ℕ) → Program.Rows Row → Program.Rows Row

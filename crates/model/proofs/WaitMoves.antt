@@ -17,8 +17,8 @@ use Rattle.model.specs.Sizes.{priority-limit}
 use Rattle.model.specs.Rows.{Key, task, suspension, queue, mailbox, message, same-key, valid, Row, TaskRow, nothing, with-senders, with-receivers, with-waiters}
 use Rattle.model.specs.Codes.{Code}
 use Rattle.model.specs.Waits.{Wait, NoWait, Sending, Receiving, AtMailbox, wait-end, starting, ended}
-use Rattle.model.specs.WellFormed.{WaitQueue, senders-of, receivers-of, waiters-of, object-of, standing-in, by-priority, wait-queue, ObjectInRange, ends-a-wait, EndAhead, TaskWellFormed, QueueWellFormed, MailboxWellFormed, WellFormedRows}
-use Rattle.model.proofs.Standing.{same-queue, changed, task-cases, put-in-range, set-standing, with-standing, set-standing-is}
+use Rattle.model.specs.WellFormed.{WaitQueue, senders-of, receivers-of, waiters-of, object-of, standing-in, by-priority, wait-queue, ObjectInRange, ends-a-wait, EndAhead, TaskWellFormed, QueueWellFormed, MailboxWellFormed, WellFormedRows, set-standing}
+use Rattle.model.proofs.Standing.{same-queue, changed, task-cases, put-in-range, with-standing, set-standing-is}
 
 -- The object is well-formed with this list as the wait queue.
 abbrev pub ObjectWellFormed : Program.Rows Row → WaitQueue → List ℕ → Type 0

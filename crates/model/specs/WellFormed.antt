@@ -9,8 +9,9 @@ use lib.Dec.{T, eqb}
 use lib.ListN.{length}
 use Rattle.lists.specs.Lists.{empty, InOrder, StandsWhereNamed}
 use Rattle.rows.specs.Program as Program
+use Rattle.rows.specs.Program.{update}
 use Rattle.model.specs.Sizes.{capacity-limit, priority-limit, end-limit, counter-span}
-use Rattle.model.specs.Rows.{Key, task, suspension, queue, mailbox, message, valid, Row, TaskRow, QueueRow, MailboxRow, MessageRow, Model, senders-by-priority, waiters-by-priority, messages-by-priority, nothing, empty-state}
+use Rattle.model.specs.Rows.{Key, task, suspension, queue, mailbox, message, same-key, valid, Row, TaskRow, QueueRow, MailboxRow, MessageRow, Model, senders-by-priority, waiters-by-priority, messages-by-priority, nothing, empty-state, with-senders, with-receivers, with-waiters}
 use Rattle.model.specs.Codes.{Code, E-OK, E-SYS, E-PAR, E-ID, E-CTX, E-ILUSE, E-OBJ, E-NOEXS, E-QOVR, E-RLWAI, E-TMOUT, E-DLT}
 use Rattle.model.specs.Calls.{Call}
 use Rattle.model.specs.Waits.{Wait, NoWait, Sending, Receiving, AtMailbox, End, Never, At, wait-end}
@@ -34,6 +35,12 @@ abbrev pub standing-in : Program.Rows Row → WaitQueue → List ℕ
 standing-in m (senders-of q) = m (queue q) .senders
 standing-in m (receivers-of q) = m (queue q) .receivers
 standing-in m (waiters-of b) = m (mailbox b) .waiters
+
+-- The rows with this list as the wait queue.
+unfoldable pub set-standing : WaitQueue → List ℕ → Program.Rows Row → Program.Rows Row
+set-standing (senders-of q) l m = update same-key (queue q) (with-senders l (m (queue q))) m
+set-standing (receivers-of q) l m = update same-key (queue q) (with-receivers l (m (queue q))) m
+set-standing (waiters-of b) l m = update same-key (mailbox b) (with-waiters l (m (mailbox b))) m
 
 -- Whether it goes by task priority.
 abbrev pub by-priority : Program.Rows Row → WaitQueue → Bool

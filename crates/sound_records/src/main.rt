@@ -4,7 +4,6 @@ ghost use Prim.Native.Nat.{_+_, _<_, _≤_};
 use chain::CELLS;
 use chain::Chains;
 use chain::KEY_CELLS;
-use kernel::State;
 use libc::STDIN_FILENO;
 use libc::STDOUT_FILENO;
 use model::Code;
@@ -13,6 +12,7 @@ use model::Wait;
 use parts::Mailbox;
 use parts::Queue;
 use parts::Task;
+use record::State;
 use ring::PLACES;
 use ring::Ring;
 

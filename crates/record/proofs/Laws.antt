@@ -1,0 +1,209 @@
+-- How the meaning of a record follows its changes: a changed task, data queue, mailbox or chain is one changed row. Row by row, the others being read from cells that are as they were.
+use mathlib.Core.Path.{_≡_, refl, sym, ap, _∙_, fun-ext}
+use mathlib.Core.Bool.{Bool, true, false, cond}
+use mathlib.Core.List.{List, []}
+use mathlib.Core.Logic.{_≢_}
+use Prim.Native.Nat.{ℕ, _+_, _<_, _≤_}
+use native.Mathlib.Omega.{arith}
+use native.Mathlib.Decide.{ℕ-discrete}
+use lib.Dec.{T}
+use lib.ListN.{length, getD, set, length-set}
+use lib.Seq.{getD-set-same, getD-set-other}
+use Rattle.rows.specs.Program as Program
+use Rattle.rows.specs.Program.{update}
+use Rattle.rows.proofs.Update.{update-same, update-cases}
+use Rattle.chain.specs.Table as chain
+use Rattle.chain.specs.Changes.{HasChain, Changed}
+use Rattle.chain.specs.declared.Chains.{Chains}
+use Rattle.chain.proofs.Standing.{new-list, other-list}
+use Rattle.ring.specs.Ring.{InRange}
+use Rattle.model.specs.Sizes.{task-limit, queue-limit, mailbox-limit}
+use Rattle.model.specs.Rows.{Key, task, suspension, queue, mailbox, message, same-key, valid, Row, TaskRow, QueueRow, MailboxRow, nothing, with-senders, with-receivers, with-waiters}
+use Rattle.model.specs.WellFormed.{WaitQueue, senders-of, receivers-of, waiters-of, object-of, standing-in, set-standing}
+use Rattle.model.proofs.Tests.{from-within}
+use Rattle.parts.specs.Chains.{task-chains, chain-number, tasks-in}
+use Rattle.parts.specs.Tasks.{task-row}
+use Rattle.parts.specs.Queues.{queue-row}
+use Rattle.parts.specs.declared.Task.{Task}
+use Rattle.parts.specs.declared.Queue.{Queue}
+use Rattle.parts.specs.declared.Mailbox.{Mailbox}
+use Rattle.record.specs.declared.State.{State}
+use Rattle.record.specs.Meaning.{no-task-cell, no-queue-cell, no-mailbox-cell, task-at, queue-at, cells-of, abs}
+use Rattle.record.specs.Sound.{Sizes, Readable}
+use Rattle.record.specs.Step.{Becomes}
+use Rattle.record.proofs.Rows.{row-is}
+use Rattle.record.proofs.Chains.{chain-range}
+
+-- ── A record with one part changed ──
+
+abbrev pub with-task : ℕ → Task → State → State
+with-task t x s = record { counter = s .counter; tasks = set (s .tasks) t x; waiting = s .waiting; queues = s .queues; mailboxes = s .mailboxes; messages = s .messages }
+
+abbrev pub with-waiting : List ℕ → State → State
+with-waiting link s = record { counter = s .counter; tasks = s .tasks; waiting = record { link = link; key = s .waiting .key }; queues = s .queues; mailboxes = s .mailboxes; messages = s .messages }
+
+abbrev pub with-queue : ℕ → Queue → State → State
+with-queue q x s = record { counter = s .counter; tasks = s .tasks; waiting = s .waiting; queues = set (s .queues) q x; mailboxes = s .mailboxes; messages = s .messages }
+
+abbrev pub with-mailbox : ℕ → Mailbox → State → State
+with-mailbox b x s = record { counter = s .counter; tasks = s .tasks; waiting = s .waiting; queues = s .queues; mailboxes = set (s .mailboxes) b x; messages = s .messages }
+
+abbrev pub with-messages : Chains → State → State
+with-messages x s = record { counter = s .counter; tasks = s .tasks; waiting = s .waiting; queues = s .queues; mailboxes = s .mailboxes; messages = x }
+
+-- ── Which row ──
+
+-- A record whose cells differ from another's at one valid number means the other's rows with that one changed.
+pub changed-row : (s r : State) (k : Key) (v : Row k) → T (valid k) → cells-of r k ≡ v → ((j : Key) → j ≢ k → T (valid j) → cells-of r j ≡ cells-of s j)
+    → abs r .rows ≡ update same-key k v (abs s .rows)
+unfolding abs
+changed-row s r k v ok new old = fun-ext (λ j. update-cases same-key (λ i x. abs r .rows i ≡ x) k v (abs s .rows) (row-is r k ok ∙ new) j (λ n. kept (valid j) (nothing j) (old j n)))
+  where
+    kept : {X : Type 0} {x y : X} (b : Bool) (d : X) → (T b → x ≡ y) → cond b x d ≡ cond b y d
+    kept true d e = e tt
+    kept false d e = refl
+
+-- Two changes in a row.
+pub and-then : {s r u : State} {m n : Program.Rows Row} → Becomes s m r → Becomes r n u → Becomes s n u
+and-then a b = record { rows-are = b .rows-are; counter-is = b .counter-is ∙ a .counter-is; readable = b .readable }
+
+-- The same rows under another name.
+pub meaning : {s r : State} {m n : Program.Rows Row} → m ≡ n → Becomes s m r → Becomes s n r
+meaning e a = record { rows-are = a .rows-are ∙ e; counter-is = a .counter-is; readable = a .readable }
+
+-- ── Tasks ──
+
+module _ {s : State} (R : Readable s) (t : ℕ) (ok : T (valid (task t))) (x : Task) where
+  task-fits : t < length (s .tasks)
+  task-fits = let r = from-within 1 task-limit t ok in let n = R .sizes .tasks in omega arith
+
+  pub new-task : task-at (with-task t x s) t ≡ x
+  new-task = getD-set-same (s .tasks) t x no-task-cell task-fits
+
+  pub other-task : (j : ℕ) → j ≢ t → task-at (with-task t x s) j ≡ task-at s j
+  other-task j n = getD-set-other (s .tasks) t j x no-task-cell n
+
+  pub readable-task : Readable (with-task t x s)
+  readable-task = record {
+    sizes = record { tasks = length-set (s .tasks) t x ∙ R .sizes .tasks; queues = R .sizes .queues; mailboxes = R .sizes .mailboxes; task-keys = R .sizes .task-keys; message-keys = R .sizes .message-keys };
+    waiting = R .waiting;
+    messages = R .messages;
+    rings = R .rings;
+  }
+
+  -- A task with its suspension as it was.
+  pub task-changed : x .suspended ≡ task-at s t .suspended → Becomes s (update same-key (task t) (task-row x (getD (s .waiting .key) t 0)) (abs s .rows)) (with-task t x s)
+  task-changed e = record {
+    rows-are = changed-row s (with-task t x s) (task t) _ ok (ap (λ (y : Task). task-row y (getD (s .waiting .key) t 0)) new-task) others;
+    counter-is = refl;
+    readable = readable-task;
+  }
+    where
+      others : (j : Key) → j ≢ task t → T (valid j) → cells-of (with-task t x s) j ≡ cells-of s j
+      others (task j) n v = ap (λ (y : Task). task-row y (getD (s .waiting .key) j 0)) (other-task j (λ i. n (ap task i)))
+      others (suspension j) n v = elim (ℕ-discrete j t) [
+        | yes i ↦ rw i (ap (λ (y : Task). y .suspended) new-task ∙ e)
+        | no i ↦ ap (λ (y : Task). y .suspended) (other-task j i)
+      ]
+      others (queue q) n v = refl
+      others (mailbox b) n v = refl
+      others (message g) n v = refl
+
+-- ── Wait queues ──
+
+-- No two wait queues have one chain.
+pub chains-apart : (k d : WaitQueue) → T (valid (object-of k)) → T (valid (object-of d)) → chain-number k ≡ chain-number d → k ≡ d
+chains-apart (senders-of p) (senders-of q) v w e = ap senders-of e
+chains-apart (senders-of p) (receivers-of q) v w e = let a = from-within 1 16 p v in let b = from-within 1 16 q w in absurd (omega arith)
+chains-apart (senders-of p) (waiters-of q) v w e = let a = from-within 1 16 p v in let b = from-within 1 16 q w in absurd (omega arith)
+chains-apart (receivers-of p) (senders-of q) v w e = let a = from-within 1 16 p v in let b = from-within 1 16 q w in absurd (omega arith)
+chains-apart (receivers-of p) (receivers-of q) v w e = ap receivers-of (omega arith)
+chains-apart (receivers-of p) (waiters-of q) v w e = let a = from-within 1 16 p v in let b = from-within 1 16 q w in absurd (omega arith)
+chains-apart (waiters-of p) (senders-of q) v w e = let a = from-within 1 16 p v in let b = from-within 1 16 q w in absurd (omega arith)
+chains-apart (waiters-of p) (receivers-of q) v w e = let a = from-within 1 16 p v in let b = from-within 1 16 q w in absurd (omega arith)
+chains-apart (waiters-of p) (waiters-of q) v w e = ap waiters-of (omega arith)
+
+-- A changed chain is one changed wait queue.
+module _ {s : State} (R : Readable s) (k : WaitQueue) (ok : T (valid (object-of k))) (link l : List ℕ)
+    (d : Changed task-limit task-chains (chain-number k) (s .waiting .link) link l) where
+  has : HasChain task-limit task-chains (chain-number k) (s .waiting .link)
+  has = record { sound = R .waiting; low = chain-range k ok .0; high = chain-range k ok .1 }
+
+  own : tasks-in link k ≡ l
+  unfolding tasks-in
+  own = new-list has d
+
+  other : (j : WaitQueue) → T (valid (object-of j)) → j ≢ k → tasks-in link j ≡ tasks-in (s .waiting .link) j
+  unfolding tasks-in
+  other j v n = other-list has d (chain-number j) (λ e. n (chains-apart j k v ok e))
+
+  readable-waiting : Readable (with-waiting link s)
+  readable-waiting = record {
+    sizes = record { tasks = R .sizes .tasks; queues = R .sizes .queues; mailboxes = R .sizes .mailboxes; task-keys = R .sizes .task-keys; message-keys = R .sizes .message-keys };
+    waiting = d .sound;
+    messages = R .messages;
+    rings = R .rings;
+  }
+
+  -- The rows of all numbers but the one whose wait queue it is.
+  other-rows : (j : Key) → j ≢ object-of k → T (valid j) → cells-of (with-waiting link s) j ≡ cells-of s j
+  other-rows (task t) n v = refl
+  other-rows (suspension t) n v = refl
+  other-rows (queue p) n v = rw (other (senders-of p) v (λ e. n (ap object-of e)), other (receivers-of p) v (λ e. n (ap object-of e))) refl
+  other-rows (mailbox b) n v = rw (other (waiters-of b) v (λ e. n (ap object-of e))) refl
+  other-rows (message g) n v = refl
+
+pub waiting-changed : {s : State} → Readable s → (k : WaitQueue) → T (valid (object-of k)) → (link l : List ℕ)
+    → Changed task-limit task-chains (chain-number k) (s .waiting .link) link l → Becomes s (set-standing k l (abs s .rows)) (with-waiting link s)
+unfolding set-standing
+waiting-changed {s} R k ok link l d = record { rows-are = rows k ok d; counter-is = refl; readable = readable-waiting R k ok link l d }
+  where
+    rows : (k : WaitQueue) → T (valid (object-of k)) → Changed task-limit task-chains (chain-number k) (s .waiting .link) link l → abs (with-waiting link s) .rows ≡ set-standing k l (abs s .rows)
+    rows (senders-of q) ok d = changed-row s (with-waiting link s) (queue q) _ ok
+        (rw (row-is s (queue q) ok, own R (senders-of q) ok link l d, other R (senders-of q) ok link l d (receivers-of q) ok (λ e. let z : _≡_ {A = ℕ} 0 1 = cc in omega arith)) refl)
+        (other-rows R (senders-of q) ok link l d)
+    rows (receivers-of q) ok d = changed-row s (with-waiting link s) (queue q) _ ok
+        (rw (row-is s (queue q) ok, own R (receivers-of q) ok link l d, other R (receivers-of q) ok link l d (senders-of q) ok (λ e. let z : _≡_ {A = ℕ} 0 1 = cc in omega arith)) refl)
+        (other-rows R (receivers-of q) ok link l d)
+    rows (waiters-of b) ok d = changed-row s (with-waiting link s) (mailbox b) _ ok
+        (rw (row-is s (mailbox b) ok, own R (waiters-of b) ok link l d) refl)
+        (other-rows R (waiters-of b) ok link l d)
+
+-- ── Data queues ──
+
+module _ {s : State} (R : Readable s) (q : ℕ) (ok : T (valid (queue q))) (x : Queue) where
+  queue-fits : q < length (s .queues)
+  queue-fits = let r = from-within 1 queue-limit q ok in let n = R .sizes .queues in omega arith
+
+  new-queue : queue-at (with-queue q x s) q ≡ x
+  new-queue = getD-set-same (s .queues) q x no-queue-cell queue-fits
+
+  other-queue : (j : ℕ) → j ≢ q → queue-at (with-queue q x s) j ≡ queue-at s j
+  other-queue j n = getD-set-other (s .queues) q j x no-queue-cell n
+
+  readable-queue : (T (x .defined) → InRange (x .ring)) → Readable (with-queue q x s)
+  readable-queue ring = record {
+    sizes = record { tasks = R .sizes .tasks; queues = length-set (s .queues) q x ∙ R .sizes .queues; mailboxes = R .sizes .mailboxes; task-keys = R .sizes .task-keys; message-keys = R .sizes .message-keys };
+    waiting = R .waiting;
+    messages = R .messages;
+    rings = λ j v. elim (ℕ-discrete j q) [
+      | yes e ↦ rw (e, new-queue) ring
+      | no n ↦ rw (other-queue j n) (R .rings j v)
+    ];
+  }
+
+  -- A data queue with its wait queues as they were.
+  pub queue-changed : (T (x .defined) → InRange (x .ring))
+      → Becomes s (update same-key (queue q) (queue-row x (abs s .rows (queue q) .senders) (abs s .rows (queue q) .receivers)) (abs s .rows)) (with-queue q x s)
+  queue-changed ring = record {
+    rows-are = changed-row s (with-queue q x s) (queue q) _ ok (rw (row-is s (queue q) ok, new-queue) refl) others;
+    counter-is = refl;
+    readable = readable-queue ring;
+  }
+    where
+      others : (j : Key) → j ≢ queue q → T (valid j) → cells-of (with-queue q x s) j ≡ cells-of s j
+      others (task t) n v = refl
+      others (suspension t) n v = refl
+      others (queue j) n v = rw (other-queue j (λ e. n (ap queue e))) refl
+      others (mailbox b) n v = refl
+      others (message g) n v = refl

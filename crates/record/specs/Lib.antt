@@ -1,0 +1,4 @@
+pub mod Meaning
+pub mod Sound
+pub mod Equal
+pub mod Step

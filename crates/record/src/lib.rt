@@ -1,0 +1,133 @@
+// The kernel's state as one record, and the test whether it is sound.
+ghost use mathlib.Core.Path.{_≡_};
+ghost use Prim.Native.Nat.{_<_};
+ghost use lib.ListN.{getD};
+ghost use Rattle.lists.specs.Tests.{Whether};
+ghost use Rattle.model.specs.Rows.{empty-state};
+ghost use Rattle.record.specs.Meaning.{abs};
+ghost use Rattle.record.specs.Sound.{Sound};
+use chain::Chains;
+use chain::KEY_CELLS;
+use model::Answer;
+use model::Code;
+use model::Wait;
+use parts::MESSAGE_CHAINS;
+use parts::MESSAGES;
+use parts::Mailbox;
+use parts::Queue;
+use parts::TASK_CHAINS;
+use parts::TASKS;
+use parts::Task;
+use ring::Ring;
+
+// Cell 0 and 32 tasks; cell 0 and 16 data queues, or mailboxes.
+const TASK_CELLS: usize = 33;
+
+const OBJECT_CELLS: usize = 17;
+
+// Cell n of `tasks`, `queues`, `mailboxes` and of the keys belongs to number n, and so do the links up to the last number; behind them stand the
+// heads of the chains. Cell 0 is nobody's. So a task's record is its cells in `tasks` and `waiting`, and a message's its cells in `messages`.
+pub struct State {
+    pub counter: u32,
+    pub tasks: [Task; TASK_CELLS],
+    // The wait queues; the keys are the tasks' priorities.
+    pub waiting: Chains,
+    pub queues: [Queue; OBJECT_CELLS],
+    pub mailboxes: [Mailbox; OBJECT_CELLS],
+    // The messages queued in each mailbox; the keys are the priorities kept with them.
+    pub messages: Chains,
+}
+
+// What a step hands back: the changed state, together with the answer.
+pub struct Step {
+    pub state: State,
+    pub answer: Answer,
+}
+
+// The key of a number. It is a function because `self.waiting.key[t]`, an element of a field of a field, isn't covered by the prover.
+fn key_of(key: &[u8; KEY_CELLS], number: usize) -> u8
+    requires { ⌜ number < 65 ⌝ }
+    ensures { λ r. ⌜ r ≡ getD (now (key .entry)) number 0 ⌝ }
+{
+    key[number]
+}
+
+impl State {
+    // The state in which nothing is defined, at counter 0.
+    pub fn empty() -> State
+        ensures { λ r. ⌜ Sound r × (abs r ≡ empty-state 0) ⌝ }
+    {
+        let task = Task {
+            defined: false,
+            suspended: false,
+            wait: Wait::NoWait,
+            code: Code::Ok,
+            word: 0,
+        };
+        let ring = Ring::new(0);
+        let queue = Queue {
+            defined: false,
+            attribute: 0,
+            ring,
+        };
+        let mailbox = Mailbox {
+            defined: false,
+            attribute: 0,
+            highest: 0,
+        };
+        let waiting = Chains::new();
+        let messages = Chains::new();
+        State {
+            counter: 0,
+            tasks: [task; TASK_CELLS],
+            waiting,
+            queues: [queue; OBJECT_CELLS],
+            mailboxes: [mailbox; OBJECT_CELLS],
+            messages,
+        }
+    }
+
+    // Whether the record is sound, whatever it holds.
+    pub fn sound(self) -> bool
+        ensures { λ r. ⌜ Whether (Sound self) r ⌝ }
+    {
+        let mut standing = [0u8; KEY_CELLS];
+        if !chain::sound(&self.waiting.link, TASKS, TASK_CHAINS, &mut standing) {
+            return false;
+        }
+        let mut queued = [0u8; KEY_CELLS];
+        if !chain::sound(&self.messages.link, MESSAGES, MESSAGE_CHAINS, &mut queued) {
+            return false;
+        }
+        let counter = self.counter;
+        let mut t: usize = 1;
+        while t < TASK_CELLS {
+            let task = self.tasks[t];
+            let priority = key_of(&self.waiting.key, t);
+            if !parts::task_sound(task, priority, standing[t], counter) {
+                return false;
+            }
+            t += 1;
+        }
+        let mut n: usize = 1;
+        while n < OBJECT_CELLS {
+            let queue = self.queues[n];
+            if !parts::queue_sound(queue, &self.waiting.link, &self.waiting.key, n) {
+                return false;
+            }
+            let mailbox = self.mailboxes[n];
+            if !parts::mailbox_sound(
+                mailbox,
+                &self.waiting.link,
+                &self.waiting.key,
+                &self.messages.link,
+                &self.messages.key,
+                n,
+            ) {
+                return false;
+            }
+            n += 1;
+        }
+        true
+    }
+}
