@@ -3,6 +3,7 @@ ghost use mathlib.Core.Path.{_≡_};
 ghost use Prim.Native.Nat.{_<_};
 ghost use lib.ListN.{getD};
 ghost use Rattle.lists.specs.Tests.{Whether};
+ghost use Rattle.model.specs.Codes.{finished};
 ghost use Rattle.model.specs.Rows.{empty-state};
 ghost use Rattle.record.specs.Meaning.{abs};
 ghost use Rattle.record.specs.Sound.{Sound};
@@ -10,6 +11,7 @@ use chain::Chains;
 use chain::KEY_CELLS;
 use model::Answer;
 use model::Code;
+use model::Outcome;
 use model::Wait;
 use parts::MESSAGE_CHAINS;
 use parts::MESSAGES;
@@ -42,6 +44,18 @@ pub struct State {
 pub struct Step {
     pub state: State,
     pub answer: Answer,
+}
+
+// A finished answer. The words that document 01 doesn't name are 0.
+pub fn finished(code: Code, a: u32, b: u32, c: u32) -> Answer
+    ensures { λ r. ⌜ r ≡ finished code a b c ⌝ }
+{
+    Answer {
+        outcome: Outcome::Finished(code),
+        a,
+        b,
+        c,
+    }
 }
 
 // The key of a number. It is a function because `self.waiting.key[t]`, an element of a field of a field, isn't covered by the prover.

@@ -2,10 +2,12 @@
 ghost use Rattle.waits.specs.Waiting.{Releasable, Released, Joinable, Joined, Endable, Ended, Clearable, AllEnded};
 ghost use mathlib.Core.Path.{_≡_};
 ghost use mathlib.Core.Bool.{cond};
+ghost use Rattle.model.specs.Waits.{end-of};
 ghost use Rattle.parts.specs.Chains.{wait-chain};
 use chain::EVERY_KEY;
 use model::Answer;
 use model::Code;
+use model::End;
 use model::Outcome;
 use model::Wait;
 use parts::RECEIVERS;
@@ -24,6 +26,16 @@ fn limit(ranked: bool, priority: u8) -> u8
         return priority;
     }
     EVERY_KEY
+}
+
+// The end of a wait that starts now: tmout ticks on, modulo the counter's span. A tmout of -1 sets none.
+pub fn end_of(counter: u32, tmout: i32) -> End
+    ensures { λ r. ⌜ r ≡ end-of counter tmout ⌝ }
+{
+    if tmout < 0 {
+        return End::Never;
+    }
+    End::At(std::num::wrapping_add_u32(counter, tmout as u32))
 }
 
 // The chain that a wait names; 0 for none.
