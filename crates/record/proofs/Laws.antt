@@ -10,7 +10,7 @@ use lib.Dec.{T}
 use lib.ListN.{length, getD, set, length-set}
 use lib.Seq.{getD-set-same, getD-set-other}
 use Rattle.rows.specs.Program as Program
-use Rattle.rows.specs.Program.{update}
+use Rattle.rows.specs.Program.{return, update, run}
 use Rattle.rows.proofs.Update.{update-same, update-cases}
 use Rattle.chain.specs.Table as chain
 use Rattle.chain.specs.Changes.{HasChain, Changed}
@@ -18,8 +18,9 @@ use Rattle.chain.specs.declared.Chains.{Chains}
 use Rattle.chain.proofs.Standing.{new-list, other-list}
 use Rattle.ring.specs.Ring.{InRange}
 use Rattle.model.specs.Sizes.{task-limit, queue-limit, mailbox-limit}
-use Rattle.model.specs.Rows.{Key, task, suspension, queue, mailbox, message, same-key, valid, Row, TaskRow, QueueRow, MailboxRow, nothing, with-senders, with-receivers, with-waiters}
+use Rattle.model.specs.Rows.{Key, task, suspension, queue, mailbox, message, same-key, valid, Row, TaskRow, QueueRow, MailboxRow, Effect, nothing, with-senders, with-receivers, with-waiters}
 use Rattle.model.specs.WellFormed.{WaitQueue, senders-of, receivers-of, waiters-of, object-of, standing-in, set-standing}
+use Rattle.model.specs.declared.Answer.{Answer}
 use Rattle.model.proofs.Tests.{from-within}
 use Rattle.parts.specs.Chains.{task-chains, chain-number, tasks-in}
 use Rattle.parts.specs.Tasks.{task-row}
@@ -30,7 +31,8 @@ use Rattle.parts.specs.declared.Mailbox.{Mailbox}
 use Rattle.record.specs.declared.State.{State}
 use Rattle.record.specs.Meaning.{no-task-cell, no-queue-cell, no-mailbox-cell, task-at, queue-at, cells-of, abs}
 use Rattle.record.specs.Sound.{Sizes, Readable}
-use Rattle.record.specs.Step.{Becomes}
+use Rattle.record.specs.declared.Step.{Step}
+use Rattle.record.specs.Step.{Becomes, Does}
 use Rattle.record.proofs.Rows.{row-is}
 use Rattle.record.proofs.Chains.{chain-range}
 
@@ -207,3 +209,14 @@ module _ {s : State} (R : Readable s) (q : ℕ) (ok : T (valid (queue q))) (x : 
       others (queue j) n v = rw (other-queue j (λ e. n (ap queue e))) refl
       others (mailbox b) n v = refl
       others (message g) n v = refl
+
+-- ── What a step does ──
+
+-- A program that runs as another does is done by the same step.
+pub does-as : {p p' : Effect} {s : State} {r : Step} → run same-key p (abs s .rows) ≡ run same-key p' (abs s .rows) → Does p' s r → Does p s r
+does-as e d = record { becomes = rw e (d .becomes); answer-is = rw e (d .answer-is) }
+
+-- A program that only answers leaves the record as it is.
+pub stays : {s : State} {x y : Answer} → Readable s → y ≡ x → Does (return x) s (record { state = s; answer = y })
+unfolding run
+stays R e = record { becomes = record { rows-are = refl; counter-is = refl; readable = R }; answer-is = e }

@@ -79,6 +79,31 @@ pub standing-chain : (s : State) (k : WaitQueue) → T (valid (object-of k)) →
 unfolding tasks-in
 standing-chain s k v = standing-is s k v
 
+-- A list of tasks without a head is empty.
+no-head : (l : List ℕ) → ((x : ℕ) → In x l → 0 < x) → headD l 0 ≡ 0 → l ≡ []
+unfolding headD
+no-head [] positive e = refl
+no-head (x ∷ l) positive e = let h = positive x (here refl) in absurd (omega arith)
+
+some-head : (l : List ℕ) → headD l 0 ≢ 0 → T (not (empty l))
+unfolding headD empty
+some-head [] f = f refl
+some-head (x ∷ l) f = tt
+
+-- What a chain's first number says of its wait queue.
+module _ {s : State} {chain : ℕ} (a : OnChain s chain) (k : WaitQueue) (o : ChainOf k chain) where
+  pub chain-of-queue : standing-in (abs s .rows) k ≡ chain-list s chain
+  chain-of-queue = standing-chain s k (o .valid-object) ∙ ap (chain-list s) (o .chain-is)
+
+  pub nobody-waits : headD (chain-list s chain) 0 ≡ 0 → standing-in (abs s .rows) k ≡ []
+  nobody-waits none = chain-of-queue ∙ no-head (chain-list s chain) (λ x i. list-range (has-chain a) i .0) none
+
+  pub someone-waits : headD (chain-list s chain) 0 ≢ 0 → T (not (empty (standing-in (abs s .rows) k)))
+  someone-waits f = rw chain-of-queue (some-head (chain-list s chain) f)
+
+  pub releasable : T (not (empty (standing-in (abs s .rows) k))) → Releasable s chain
+  releasable f = record { on = a; someone = rw chain-of-queue at f }
+
 -- Whoever stands in a wait queue is a defined task.
 module _ {s : State} (S : Sound s) (k : WaitQueue) {t : ℕ} (i : In t (standing-in (abs s .rows) k)) where
   pub waiter-valid : T (valid (task t))
@@ -132,7 +157,7 @@ module _ {s : State} {chain : ℕ} (a : Releasable s chain) {link : List ℕ} {t
 
   module _ (k : WaitQueue) (o : ChainOf k chain) where
     list-is : standing-in (abs s .rows) k ≡ chain-list s chain
-    list-is = standing-chain s k (o .valid-object) ∙ ap (chain-list s) (o .chain-is)
+    list-is = chain-of-queue (a .on) k o
 
     in-k : In t (standing-in (abs s .rows) k)
     in-k = rw list-is in-list
@@ -187,7 +212,7 @@ module _ {s : State} {chain me : ℕ} (a : Joinable s chain me) where
 
     module _ (k : WaitQueue) (o : ChainOf k chain) where
       joined-list : standing-in (abs s .rows) k ≡ chain-list s chain
-      joined-list = standing-chain s k (o .valid-object) ∙ ap (chain-list s) (o .chain-is)
+      joined-list = chain-of-queue (a .on) k o
 
       -- The keys of those that stand there are their priorities.
       keys-are : map (λ t. abs s .rows (task t) .priority) (standing-in (abs s .rows) k) ≡ keys-of (s .waiting .key) (chain-list s chain)
@@ -279,12 +304,7 @@ pub record Ending (k : WaitQueue) (code : Code) (s₀ s : State) : Type 0 where
 pub ending-begins : (k : WaitQueue) (code : Code) (s : State) → Ending k code s s
 ending-begins k code s = record { counter-is = refl; runs = λ p. refl; others = λ d n. refl; messages = λ b. refl }
 
--- A list of tasks without a head is empty, and one with a head is that and the rest.
-no-head : (l : List ℕ) → ((x : ℕ) → In x l → 0 < x) → headD l 0 ≡ 0 → l ≡ []
-unfolding headD
-no-head [] positive e = refl
-no-head (x ∷ l) positive e = let h = positive x (here refl) in absurd (omega arith)
-
+-- A list with a head is that and the rest.
 split : (l : List ℕ) → T (not (empty l)) → l ≡ headD l 0 ∷ without (headD l 0) l
 unfolding headD empty
 split [] n = absurd n
@@ -296,19 +316,14 @@ module _ {s : State} {chain : ℕ} {code : Code} (a : Clearable s chain code) {t
   sound-now = a .on .sound
 
   not-none : T (not (empty (chain-list s chain)))
-  unfolding empty headD
-  not-none = go (chain-list s chain) (λ e. someone (head-is ∙ e))
-    where
-      go : (l : List ℕ) → headD l 0 ≢ 0 → T (not (empty l))
-      go [] f = f refl
-      go (x ∷ l) f = tt
+  not-none = some-head (chain-list s chain) (λ e. someone (head-is ∙ e))
 
   in-chain-list : In t (chain-list s chain)
   in-chain-list = rw head-is (in-head (chain-list s chain) not-none)
 
   module _ (k : WaitQueue) (o : ChainOf k chain) where
     ending-list : standing-in (abs s .rows) k ≡ chain-list s chain
-    ending-list = standing-chain s k (o .valid-object) ∙ ap (chain-list s) (o .chain-is)
+    ending-list = chain-of-queue (a .on) k o
 
     waits-at-k : wait-queue (abs s .rows (task t) .wait) ≡ some k
     waits-at-k = rows-of sound-now .waiting .no-other t k (rw ending-list in-chain-list)
@@ -388,4 +403,4 @@ ending-done {s₀} {s} {chain} {code} a none k o i = record {
 }
   where
     gone : standing-in (abs s .rows) k ≡ []
-    gone = standing-chain s k (o .valid-object) ∙ (ap (chain-list s) (o .chain-is) ∙ no-head (chain-list s chain) (λ x i. list-range (has-chain a) i .0) none)
+    gone = nobody-waits a k o none

@@ -1,0 +1,222 @@
+-- The calls on data queues: what an accepted call has in view is its queue's own row, so its body does what its definition says.
+use mathlib.Core.Path.{_≡_, refl, sym, ap, _∙_, subst}
+use mathlib.Core.Bool.{Bool, true, false, not, _||_}
+use mathlib.Core.List.{List, [], headD}
+use Prim.Native.Nat.{ℕ, _+_, _<_, _≤_}
+use native.Mathlib.Omega.{arith}
+use lib.Dec.{T, eqb}
+use lib.ListN.{length}
+use Rattle.lists.specs.Lists.{empty, one-of}
+use Rattle.rows.specs.Program.{put, update, run}
+use Rattle.ring.specs.Ring as ring
+use Rattle.ring.specs.Ring.{stored}
+use Rattle.ring.specs.declared.Ring.{Ring}
+use Rattle.model.specs.Sizes.{capacity-limit}
+use Rattle.model.specs.Rows.{task, queue, Environment, Effect, same-key, valid, QueueRow, no-queue}
+use Rattle.model.specs.Codes.{finished, done}
+use Rattle.model.specs.Calls.{View, names-queue, creates, view-of}
+use Rattle.model.specs.Errors.{task-only, exists}
+use Rattle.model.specs.WaitQueues.{end-waits}
+use Rattle.model.specs.DataQueues.{send, receive, cre-dtq, del-dtq, snd-dtq, psnd-dtq, tsnd-dtq, fsnd-dtq, rcv-dtq, prcv-dtq, trcv-dtq, ref-dtq}
+use Rattle.model.specs.Waits.{end-of}
+use Rattle.model.specs.WellFormed.{standing-in, senders-of, receivers-of}
+use Rattle.model.specs.declared.Answer.{Answer}
+use Rattle.model.specs.declared.Call.{Call}
+use Rattle.model.specs.declared.Code.the-variants.{Ok as E-OK, Dlt as E-DLT}
+use Rattle.model.specs.declared.End.{End}
+use Rattle.model.specs.declared.End.the-variants.{Never}
+use Rattle.model.proofs.Tests.{only-left, neither-left}
+use Rattle.model.proofs.Step.{numbered}
+use Rattle.model.proofs.Checked.{queue-attribute, queue-capacity, exists-not, exists-already, caller-defined, caller-able, something-to-drop}
+use Rattle.parts.specs.Queues.{queue-row}
+use Rattle.parts.specs.declared.Queue.{Queue}
+use Rattle.record.specs.declared.State.{State}
+use Rattle.record.specs.declared.Step.{Step}
+use Rattle.record.specs.Meaning.{queue-at, abs}
+use Rattle.record.specs.Step.{Becomes, Does, Accepted, Performs}
+use Rattle.record.proofs.Laws.{with-queue, queue-changed, stays, meaning}
+use Rattle.record.proofs.Accepted.{passed, valid-queue, the-queue-is, caller-is}
+use Rattle.record.proofs.Numbered.{numbered-call, performs}
+use Rattle.waits.specs.Waiting.{chain-list, OnChain, ChainOf, Cleared, AllEnded}
+use Rattle.waits.proofs.Laws.{rows-of, chain-of-queue}
+use Rattle.data_queues.proofs.Laws.{words-are, on-senders, on-receivers, senders-chain, receivers-chain}
+use Rattle.data_queues.specs.Bodies.{AtQueue, CanWait, when-full, FullReady, when-empty, EmptyReady}
+use Rattle.data_queues.specs.declared.Full.{Full}
+use Rattle.data_queues.specs.declared.Full.the-variants as full
+use Rattle.data_queues.specs.declared.Empty.{Empty}
+use Rattle.data_queues.specs.declared.Empty.the-variants as empty
+
+-- The counter that calls read is the record's.
+counter-of : (s : State) → abs s .environment .counter ≡ s .counter
+unfolding abs
+counter-of s = refl
+
+module _ {n : ℕ} {s : State} {c : Call} (a : Accepted n s c) where
+  abbrev view : View
+  view = view-of (abs s .rows) (numbered n c)
+
+  at-queue : T (names-queue (numbered n c)) → T (view .the-queue .defined) → AtQueue s (c .object)
+  at-queue named defined = record {
+    sound = a .sound;
+    valid-queue = valid-queue (numbered-call a) named;
+    defined = subst (λ (x : QueueRow). T (x .defined)) (the-queue-is (numbered-call a) named) defined;
+  }
+
+  can-wait : T (task-only (numbered n c)) → CanWait s (c .caller)
+  can-wait h = record {
+    defined = rw (caller-is (numbered-call a) h) at (caller-defined (passed (numbered-call a)) h);
+    able = rw (caller-is (numbered-call a) h) at (caller-able (passed (numbered-call a)) h);
+  }
+
+  -- The queue exists where the call doesn't create it.
+  already : T (names-queue (numbered n c)) → T (not (creates (numbered n c))) → (T (exists view (numbered n c)) → T (view .the-queue .defined || false)) → AtQueue s (c .object)
+  already named not-created only = at-queue named (only-left (view .the-queue .defined) (only (exists-already (passed (numbered-call a)) not-created)))
+
+-- ── Sending ──
+
+-- What a send asks of its body, and that the body's program is the call's.
+pub record SendsAs (s : State) (c : Call) (how : Full) (call : Environment → View → Call → Effect) : Type 0 where
+  pub at : AtQueue s (c .object)
+  pub ready : FullReady s (c .object) how
+  pub does : {r : Step} → Does (send (c .object) (abs s .rows (queue (c .object))) (c .value) (when-full s (c .object) (c .value) how)) s r → Performs call s c r
+
+module _ {s : State} {c : Call} where
+  pub sends-4 : Accepted 4 s c → SendsAs s c (full.Wait (c .caller) Never) snd-dtq
+  unfolding one-of exists
+  sends-4 a = record {
+    at = already a tt tt (λ t. t);
+    ready = can-wait a tt;
+    does = λ d. performs snd-dtq a (rw (the-queue-is (numbered-call a) tt, caller-is (numbered-call a) tt) d);
+  }
+
+  pub sends-5 : Accepted 5 s c → SendsAs s c full.Refuse psnd-dtq
+  unfolding one-of exists
+  sends-5 a = record { at = already a tt tt (λ t. t); ready = tt; does = λ d. performs psnd-dtq a (rw (the-queue-is (numbered-call a) tt) d) }
+
+  pub sends-6 : Accepted 6 s c → SendsAs s c (full.Wait (c .caller) (end-of (s .counter) (c .tmout))) tsnd-dtq
+  unfolding one-of exists
+  sends-6 a = record {
+    at = already a tt tt (λ t. t);
+    ready = can-wait a tt;
+    does = λ d. performs tsnd-dtq a (rw (the-queue-is (numbered-call a) tt, caller-is (numbered-call a) tt, counter-of s) d);
+  }
+
+  pub sends-7 : Accepted 7 s c → SendsAs s c full.Replace fsnd-dtq
+  unfolding one-of exists
+  sends-7 a = record {
+    at = already a tt tt (λ t. t);
+    ready = rw (the-queue-is (numbered-call a) tt) at (something-to-drop (passed (numbered-call a)) tt);
+    does = λ d. performs fsnd-dtq a (rw (the-queue-is (numbered-call a) tt) d);
+  }
+
+-- ── Receiving ──
+
+pub record ReceivesAs (s : State) (c : Call) (how : Empty) (call : Environment → View → Call → Effect) : Type 0 where
+  pub at : AtQueue s (c .object)
+  pub ready : EmptyReady s how
+  pub does : {r : Step} → Does (receive (c .object) (abs s .rows (queue (c .object))) (when-empty s (c .object) how)) s r → Performs call s c r
+
+module _ {s : State} {c : Call} where
+  pub receives-8 : Accepted 8 s c → ReceivesAs s c (empty.Wait (c .caller) Never) rcv-dtq
+  unfolding one-of exists
+  receives-8 a = record {
+    at = already a tt tt (λ t. t);
+    ready = can-wait a tt;
+    does = λ d. performs rcv-dtq a (rw (the-queue-is (numbered-call a) tt, caller-is (numbered-call a) tt) d);
+  }
+
+  pub receives-9 : Accepted 9 s c → ReceivesAs s c empty.Refuse prcv-dtq
+  unfolding one-of exists
+  receives-9 a = record { at = already a tt tt (λ t. t); ready = tt; does = λ d. performs prcv-dtq a (rw (the-queue-is (numbered-call a) tt) d) }
+
+  pub receives-10 : Accepted 10 s c → ReceivesAs s c (empty.Wait (c .caller) (end-of (s .counter) (c .tmout))) trcv-dtq
+  unfolding one-of exists
+  receives-10 a = record {
+    at = already a tt tt (λ t. t);
+    ready = can-wait a tt;
+    does = λ d. performs trcv-dtq a (rw (the-queue-is (numbered-call a) tt, caller-is (numbered-call a) tt, counter-of s) d);
+  }
+
+-- ── Creating, deleting, reading ──
+
+module _ {s : State} {c : Call} where
+  pub created : (a : Accepted 2 s c) → (c .attribute ≤ 1) × (c .value ≤ capacity-limit) × T (valid (queue (c .object)))
+  unfolding one-of
+  created a = (queue-attribute (passed (numbered-call a)) tt, queue-capacity (passed (numbered-call a)) tt, valid-queue (numbered-call a) tt)
+
+  -- Nobody waits at a queue that isn't there yet.
+  none-before : (a : Accepted 2 s c) → (abs s .rows (queue (c .object)) .senders ≡ []) × (abs s .rows (queue (c .object)) .receivers ≡ [])
+  unfolding one-of exists
+  none-before a =
+      let missing : T (not (abs s .rows (queue (c .object)) .defined)) = rw (the-queue-is (numbered-call a) tt) at (neither-left (view-of (abs s .rows) (numbered 2 c) .the-queue .defined) false (exists-not (passed (numbered-call a)) tt)) in
+      let u = rows-of (a .sound) .queues (c .object) .undefined missing in
+      (u .1, u .2)
+
+  pub creates-queue : (a : Accepted 2 s c) {y : Answer} {r : Ring} → ring.Empty (c .value) r → y ≡ finished E-OK 0 0 0
+      → Performs cre-dtq s c (record { state = with-queue (c .object) (record { defined = true; attribute = c .attribute; ring = r }) s; answer = y })
+  unfolding run
+  creates-queue a {y} {r} e ok = record {
+    becomes = meaning (ap (λ (x : QueueRow). update same-key (queue (c .object)) x (abs s .rows)) (rw (none-before a .0, none-before a .1, e .words-are, e .kept .capacity-is) refl))
+        (queue-changed (a .sound .readable) (c .object) (created a .2) _ (λ d. e .kept .in-range));
+    answer-is = ok;
+  }
+
+  pub deletes-at : Accepted 3 s c → AtQueue s (c .object)
+  unfolding one-of exists
+  deletes-at a = already a tt tt (λ t. t)
+
+  pub refers-at : Accepted 11 s c → AtQueue s (c .object)
+  unfolding one-of exists
+  refers-at a = already a tt tt (λ t. t)
+
+  -- The waits end, and what is left of the program makes the queue undefined.
+  pub deletes-queue : (a : Accepted 3 s c) {u w : State} {y : Answer} {r : Ring} → AllEnded s (c .object) E-DLT u → AllEnded u (16 + c .object) E-DLT w → ring.Empty 0 r → y ≡ finished E-OK 0 0 0
+      → Performs del-dtq s c (record { state = with-queue (c .object) (record { defined = false; attribute = 0; ring = r }) w; answer = y })
+  unfolding run one-of
+  deletes-queue a {u} {w} {y} {r} e f none ok = performs del-dtq a (rw (the-queue-is (numbered-call a) tt) (record {
+    becomes = record { rows-are = b .rows-are ∙ ap (λ o. o .state) (sym run-is); counter-is = b .counter-is ∙ (B .counter-is ∙ A .counter-is); readable = b .readable };
+    answer-is = ok ∙ ap (λ o. o .answer) (sym run-is);
+  }))
+    where
+      q : ℕ
+      q = c .object
+
+      A : Cleared (senders-of q) E-DLT s u
+      A = e .cleared (senders-of q) (senders-chain (deletes-at a))
+
+      B : Cleared (receivers-of q) E-DLT u w
+      B = f .cleared (receivers-of q) (receivers-chain (deletes-at a))
+
+      differ : receivers-of q ≡ senders-of q → ⊥
+      differ z = let o : _≡_ {A = ℕ} 0 1 = cc in omega arith
+
+      last : Effect
+      last = put (queue q) no-queue done
+
+      run-is : run same-key (end-waits (abs s .rows (queue q) .senders) E-DLT (end-waits (abs s .rows (queue q) .receivers) E-DLT last)) (abs s .rows) ≡ run same-key last (abs w .rows)
+      run-is = A .runs (end-waits (abs s .rows (queue q) .receivers) E-DLT last)
+          ∙ (ap (λ l. run same-key (end-waits l E-DLT last) (abs u .rows)) (sym (A .others (receivers-of q) differ)) ∙ B .runs last)
+
+      no-sender : abs w .rows (queue q) .senders ≡ []
+      no-sender = B .others (senders-of q) (λ z. differ (sym z)) ∙ A .no-one
+
+      b : Becomes w (update same-key (queue q) no-queue (abs w .rows)) (with-queue q (record { defined = false; attribute = 0; ring = r }) w)
+      b = meaning (ap (λ (x : QueueRow). update same-key (queue q) x (abs w .rows)) (rw (no-sender, B .no-one, none .words-are) refl))
+          (queue-changed (B .sound .readable) q (deletes-at a .valid-queue) _ (λ d. absurd d))
+
+  pub refers-to-queue : (a : Accepted 11 s c) {sender receiver count : ℕ} {y : Answer} → y ≡ finished E-OK sender receiver count
+      → sender ≡ headD (chain-list s (c .object)) 0 → receiver ≡ headD (chain-list s (16 + c .object)) 0 → count ≡ length (stored (queue-at s (c .object) .ring))
+      → Performs ref-dtq s c (record { state = s; answer = y })
+  unfolding one-of
+  refers-to-queue a {sender} {receiver} {count} {y} e p q n = performs ref-dtq a (rw (the-queue-is (numbered-call a) tt) (stays (a .sound .readable) (e ∙ words)))
+    where
+      x : QueueRow
+      x = abs s .rows (queue (c .object))
+
+      words : finished E-OK sender receiver count ≡ finished E-OK (headD (x .senders) 0) (headD (x .receivers) 0) (length (x .words))
+      words =
+          let at = refers-at a in
+          let one : sender ≡ headD (x .senders) 0 = p ∙ ap (λ l. headD l 0) (sym (chain-of-queue (on-senders at) (senders-of (c .object)) (senders-chain at))) in
+          let two : receiver ≡ headD (x .receivers) 0 = q ∙ ap (λ l. headD l 0) (sym (chain-of-queue (on-receivers at) (receivers-of (c .object)) (receivers-chain at))) in
+          let three : count ≡ length (x .words) = n ∙ ap length (sym (words-are at)) in
+          rw (one, two, three) refl

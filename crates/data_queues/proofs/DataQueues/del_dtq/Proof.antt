@@ -1,0 +1,49 @@
+-- `del_dtq` ends all waits, then makes the queue undefined.
+use native.Mathlib.Omega.{arith}
+use Rattle.model.specs.WellFormed.{senders-of}
+use Rattle.data_queues.proofs.Laws.{queue-range, on-senders, on-receivers, senders-chain}
+use Rattle.data_queues.proofs.Calls.{deletes-at, deletes-queue}
+use borrow.Author.Needs.{needs}
+use Rattle.data_queues.proofs.DataQueues.del_dtq.Statement.{statement}
+use Rattle.data_queues.proofs.DataQueues.del_dtq.Tie as tie
+
+cast-q : tie.Need-cast-q
+cast-q c = search needs
+
+end-waits-requires : tie.Need-end-waits-requires
+end-waits-requires c κs = record { on = on-senders (deletes-at (c .before .before .pre)); ends = tt }
+
+add-end-waits : tie.Need-add-end-waits
+add-end-waits c = search needs
+
+end-waits-requires-2 : tie.Need-end-waits-requires-2
+end-waits-requires-2 c κs = let a = deletes-at (c .before .before .before .pre) in record { on = record { sound = c .end-waits .ensures .cleared (senders-of _) (senders-chain a) .sound; low = on-receivers a .low; high = on-receivers a .high }; ends = tt }
+
+new-requires : tie.Need-new-requires
+new-requires c κs = search needs
+
+mul-t11 : tie.Need-mul-t11
+mul-t11 c = search needs
+
+element-set-from-alone : tie.Need-element-set-from-alone
+element-set-from-alone c = let h = queue-range (deletes-at (c .before .before .before .before .before .pre)) in omega arith
+
+finished-requires : tie.Need-finished-requires
+finished-requires c κs = search needs
+
+returns : tie.Need-returns
+returns c = deletes-queue (c .before .before .before .before .before .before .pre) (c .before .before .before .end-waits .ensures) (c .before .before .end-waits2 .ensures) (c .before .new .ensures) (c .finished .ensures)
+
+pub del-dtq-spec : {M : Type 1} → statement M
+del-dtq-spec =
+    tie.close
+    (tie.spec
+    cast-q
+    end-waits-requires
+    add-end-waits
+    end-waits-requires-2
+    new-requires
+    mul-t11
+    element-set-from-alone
+    finished-requires
+    returns)

@@ -1,0 +1,13 @@
+-- `prcv_dtq` is a receive: what it asks is what the error table has let through.
+use Rattle.data_queues.proofs.Calls.{receives-9}
+use Rattle.data_queues.proofs.DataQueues.prcv_dtq.Statement.{statement}
+use Rattle.data_queues.proofs.DataQueues.prcv_dtq.Tie as tie
+
+receive-requires : tie.Need-receive-requires
+receive-requires c κs = let a = receives-9 (c .pre) in (a .at, a .ready)
+
+returns : tie.Need-returns
+returns c = receives-9 (c .before .pre) .does (c .receive .ensures)
+
+pub prcv-dtq-spec : {M : Type 1} → statement M
+prcv-dtq-spec = tie.close (tie.spec receive-requires returns)
