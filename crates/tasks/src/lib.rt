@@ -1,0 +1,188 @@
+// Calls 1 and 19 to 23, which name a task, and the tick (document 01, "Task states and ticks"). No row of the error table applies to the calls.
+ghost use mathlib.Core.Path.{_≡_};
+ghost use lib.Dec.{T};
+ghost use Rattle.rows.specs.Program.{update};
+ghost use Rattle.model.specs.Rows.{task, suspension, same-key, valid};
+ghost use Rattle.model.specs.Tasks.{define-task, rel-wai, sus-tsk, rsm-tsk, look, fetch};
+ghost use Rattle.model.specs.Waits.{wait-number, wait-object, wait-end, due};
+ghost use Rattle.record.specs.Meaning.{abs};
+ghost use Rattle.record.specs.Sound.{Readable, Sound};
+ghost use Rattle.record.specs.Step.{Becomes, Accepted, Performs};
+ghost use Rattle.tasks.specs.Tick.{Ticked};
+use model::Call;
+use model::Code;
+use model::End;
+use model::Wait;
+use parts::TASKS;
+use parts::Task;
+use record::State;
+use record::Step;
+
+// ── What a task's wait says ──
+
+// The wait's number, as look gives it.
+fn wait_number(wait: Wait) -> u32
+    ensures { λ r. ⌜ r ≡ wait-number wait ⌝ }
+{
+    match wait {
+        Wait::NoWait => 0,
+        Wait::Sending {
+            queue: _,
+            end: _,
+            word: _,
+        } => 1,
+        Wait::Receiving { queue: _, end: _ } => 2,
+        Wait::AtMailbox { mailbox: _, end: _ } => 3,
+    }
+}
+
+// The number of the object that the task waits at.
+fn wait_object(wait: Wait) -> u32
+    ensures { λ r. ⌜ r ≡ wait-object wait ⌝ }
+{
+    match wait {
+        Wait::NoWait => 0,
+        Wait::Sending {
+            queue,
+            end: _,
+            word: _,
+        } => queue as u32,
+        Wait::Receiving { queue, end: _ } => queue as u32,
+        Wait::AtMailbox { mailbox, end: _ } => mailbox as u32,
+    }
+}
+
+fn wait_end(wait: Wait) -> End
+    ensures { λ r. ⌜ r ≡ wait-end wait ⌝ }
+{
+    match wait {
+        Wait::NoWait => End::Never,
+        Wait::Sending {
+            queue: _,
+            end,
+            word: _,
+        } => end,
+        Wait::Receiving { queue: _, end } => end,
+        Wait::AtMailbox { mailbox: _, end } => end,
+    }
+}
+
+// Whether a wait with this end is over when the counter has this value. By equality, so that the counter's wrap makes no difference.
+fn due(end: End, counter: u32) -> bool
+    ensures { λ r. ⌜ r ≡ due counter end ⌝ }
+{
+    match end {
+        End::Never => false,
+        End::At(tick) => tick == counter,
+    }
+}
+
+// ── The calls ──
+
+// The task's suspension becomes this; its wait isn't touched.
+fn set_suspension(mut state: State, t: u8, suspended: bool) -> State
+    requires { ⌜ Readable state × T (valid (task t)) ⌝ }
+    ensures { λ r. ⌜ Becomes state (update same-key (suspension t) suspended (abs state .rows)) r ⌝ }
+{
+    let i = t as usize;
+    let task = state.tasks[i];
+    let wait = task.wait;
+    let code = task.code;
+    state.tasks[i] = Task {
+        wait,
+        word: task.word,
+        code,
+        defined: task.defined,
+        suspended,
+    };
+    state
+}
+
+// A type that holds the state, so that the calls can be methods: a method stands in the crate of its type.
+pub struct Tasks {
+    pub state: State,
+}
+
+impl Tasks {
+    // 1
+    pub fn define_task(self, call: Call) -> Step
+        requires { ⌜ Accepted 1 (self .state) call ⌝ }
+        ensures { λ r. ⌜ Performs define-task (self .state) call r ⌝ }
+    {
+        let mut state = self.state;
+        let t = call.object as usize;
+        let mut waiting = state.waiting;
+        waiting.key[t] = call.value as u8;
+        state.waiting = waiting;
+        state.tasks[t] = Task {
+            wait: Wait::NoWait,
+            word: 0,
+            code: Code::Ok,
+            defined: true,
+            suspended: false,
+        };
+        let answer = record::finished(Code::Ok, 0, 0, 0);
+        Step { state, answer }
+    }
+
+    // 19
+    pub fn rel_wai(self, call: Call) -> Step
+        requires { ⌜ Accepted 19 (self .state) call ⌝ }
+        ensures { λ r. ⌜ Performs rel-wai (self .state) call r ⌝ }
+    {
+        let before = self.state;
+        let state = waits::end_wait(before, call.object, Code::Rlwai);
+        let answer = record::finished(Code::Ok, 0, 0, 0);
+        Step { state, answer }
+    }
+
+    // 20
+    pub fn sus_tsk(self, call: Call) -> Step
+        requires { ⌜ Accepted 20 (self .state) call ⌝ }
+        ensures { λ r. ⌜ Performs sus-tsk (self .state) call r ⌝ }
+    {
+        let before = self.state;
+        let state = set_suspension(before, call.object, true);
+        let answer = record::finished(Code::Ok, 0, 0, 0);
+        Step { state, answer }
+    }
+
+    // 21
+    pub fn rsm_tsk(self, call: Call) -> Step
+        requires { ⌜ Accepted 21 (self .state) call ⌝ }
+        ensures { λ r. ⌜ Performs rsm-tsk (self .state) call r ⌝ }
+    {
+        let before = self.state;
+        let state = set_suspension(before, call.object, false);
+        let answer = record::finished(Code::Ok, 0, 0, 0);
+        Step { state, answer }
+    }
+
+    // 22
+    pub fn look(self, call: Call) -> Step
+        requires { ⌜ Accepted 22 (self .state) call ⌝ }
+        ensures { λ r. ⌜ Performs look (self .state) call r ⌝ }
+    {
+        let state = self.state;
+        let t = call.object as usize;
+        let task = state.tasks[t];
+        let wait = task.wait;
+        let number = wait_number(wait);
+        let object = wait_object(wait);
+        let answer = record::finished(Code::Ok, number, object, task.suspended as u32);
+        Step { state, answer }
+    }
+
+    // 23
+    pub fn fetch(self, call: Call) -> Step
+        requires { ⌜ Accepted 23 (self .state) call ⌝ }
+        ensures { λ r. ⌜ Performs fetch (self .state) call r ⌝ }
+    {
+        let state = self.state;
+        let t = call.object as usize;
+        let task = state.tasks[t];
+        let code = task.code;
+        let answer = record::finished(code, task.word, 0, 0);
+        Step { state, answer }
+    }
+}
