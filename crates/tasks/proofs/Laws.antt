@@ -9,6 +9,7 @@ use native.Mathlib.Omega.{arith}
 use lib.Dec.{T, le→leb}
 use lib.ListN.{length, getD, set, length-set}
 use lib.Seq.{getD-set-same, getD-set-other}
+use mir.Val.{boolByte}
 use Rattle.lists.specs.Lists.{one-of}
 use Rattle.rows.specs.Program.{return, put, update, run, Result}
 use Rattle.rows.specs.Program as Program
@@ -178,6 +179,11 @@ pub suspension-set : {s r : State} {t : ℕ} {b : Bool} {x : Answer} → Becomes
 unfolding run
 suspension-set b e = record { becomes = b; answer-is = e }
 
+-- A Boolean cast to a number, as look's c.
+bit-of : (b : Bool) → boolByte b ≡ cond b 1 0
+bit-of true = refl
+bit-of false = refl
+
 module _ {s : State} {c : Call} where
   -- 1
   module _ (a : Accepted 1 s c) where
@@ -211,9 +217,9 @@ module _ {s : State} {c : Call} where
 
   -- 22
   pub wait-looked-at : Accepted 22 s c → {x : Answer} {number object : ℕ} → number ≡ wait-number (task-at s (c .object) .wait) → object ≡ wait-object (task-at s (c .object) .wait)
-      → x ≡ finished E-OK number object (cond (task-at s (c .object) .suspended) 1 0) → Does (look (abs s .environment) (view-of (abs s .rows) c) c) s (record { state = s; answer = x })
+      → x ≡ finished E-OK number object (boolByte (task-at s (c .object) .suspended)) → Does (look (abs s .environment) (view-of (abs s .rows) c) c) s (record { state = s; answer = x })
   unfolding one-of
-  wait-looked-at a n o e = only-answers (a .sound .readable) (e ∙ rw (n, o, row-in-view a tt, suspension-in-view a tt) refl)
+  wait-looked-at a n o e = only-answers (a .sound .readable) (e ∙ rw (n, o, row-in-view a tt, suspension-in-view a tt, bit-of (task-at s (c .object) .suspended)) refl)
 
   -- 23
   module _ (a : Accepted 23 s c) where

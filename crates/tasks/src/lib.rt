@@ -185,4 +185,28 @@ impl Tasks {
         let answer = record::finished(code, task.word, 0, 0);
         Step { state, answer }
     }
+
+    // 0: the waits whose end tick is the counter's new value end, from the smallest task number on.
+    pub fn tick(self) -> Step
+        requires { ⌜ Sound (self .state) ⌝ }
+        ensures { λ r. ⌜ Ticked (self .state) r ⌝ }
+    {
+        let mut state = self.state;
+        let counter = std::num::wrapping_add_u32(state.counter, 1);
+        state.counter = counter;
+        let mut count: u32 = 0;
+        let mut t: u8 = 1;
+        while t <= TASKS as u8 {
+            let task = state.tasks[t as usize];
+            let wait = task.wait;
+            let end = wait_end(wait);
+            if due(end, counter) {
+                state = waits::end_wait(state, t, Code::Tmout);
+                count += 1;
+            }
+            t += 1;
+        }
+        let answer = record::finished(Code::Ok, count, 0, 0);
+        Step { state, answer }
+    }
 }
