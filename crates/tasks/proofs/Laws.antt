@@ -13,7 +13,7 @@ use mir.Val.{boolByte}
 use Rattle.lists.specs.Lists.{one-of}
 use Rattle.rows.specs.Program.{return, put, update, run, Result}
 use Rattle.rows.specs.Program as Program
-use Rattle.rows.proofs.Update.{update-cases}
+use Rattle.rows.proofs.Update.{update-same, update-cases}
 use Rattle.model.specs.Sizes.{task-limit, priority-limit}
 use Rattle.model.specs.Rows.{Key, task, suspension, queue, mailbox, message, same-key, valid, Row, TaskRow, Effect}
 use Rattle.model.specs.Codes.{finished, done}
@@ -21,6 +21,7 @@ use Rattle.model.specs.Calls.{View, view-of, names-task, creates, task-priority
 use Rattle.model.specs.Errors.{exists}
 use Rattle.model.specs.Waits.{able, wait-number, wait-object}
 use Rattle.model.specs.WaitQueues.{end-wait}
+use Rattle.model.specs.WellFormed.{ends-a-wait, WellFormedRows}
 use Rattle.model.specs.Tasks.{define-task, rel-wai, look, fetch}
 use Rattle.model.specs.declared.Answer.{Answer}
 use Rattle.model.specs.declared.Call.{Call}
@@ -31,6 +32,7 @@ use Rattle.model.proofs.Tests.{from-within, only-left}
 use Rattle.model.proofs.Choices.{cond-yes}
 use Rattle.model.proofs.Checked.{task-priority, exists-already, task-waits}
 use Rattle.model.proofs.After.{after-end-wait, leads, leads-here}
+use Rattle.model.proofs.WaitMoves.{leave}
 use Rattle.model.proofs.KeptTasks.{Somewhere, waits-somewhere}
 use Rattle.parts.specs.Tasks.{task-row}
 use Rattle.parts.specs.declared.Task.{Task}
@@ -144,6 +146,13 @@ module _ {s r : State} {t : ℕ} {code : Code} (waits : T (not (able (abs s .row
   end-runs p =
       leads (end-wait t code p) p (abs s .rows) _ (after-end-wait t code (somewhere .queue-named) p (abs s .rows) (somewhere .named) (leads-here _ _))
       ∙ ap (run same-key p) (sym (end-becomes .rows-are))
+
+  -- The rows stay well-formed, and the task is able.
+  pub end-kept : {counter : ℕ} {soonest : ℕ → ℕ} → T (ends-a-wait code) → WellFormedRows counter soonest (abs s .rows) → WellFormedRows counter soonest (abs r .rows)
+  end-kept ends w = rw (end-becomes .rows-are) (leave w t (somewhere .queue-named) code 0 ends (somewhere .named))
+
+  pub end-able : abs r .rows (task t) .wait ≡ NoWait
+  end-able = ap (λ (x : TaskRow). x .wait) (ap (λ (m : Program.Rows Row). m (task t)) (end-becomes .rows-are) ∙ update-same {Row = Row} same-key (task t) _ _)
 
 -- ── The calls ──
 
