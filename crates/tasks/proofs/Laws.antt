@@ -3,11 +3,11 @@ use mathlib.Core.Path.{_≡_, refl, sym, ap, _∙_, fun-ext}
 use mathlib.Core.Bool.{Bool, true, false, not, cond}
 use mathlib.Core.List.{[], _∷_}
 use mathlib.Core.Logic.{_≢_}
-use Prim.Native.Nat.{ℕ, _<_, _≤_}
+use Prim.Native.Nat.{ℕ, _≤_}
 use native.Mathlib.Decide.{ℕ-discrete}
 use native.Mathlib.Omega.{arith}
-use lib.Dec.{T, le→leb}
-use lib.ListN.{length, getD, set, length-set}
+use lib.Dec.{T}
+use lib.ListN.{getD, set, length-set}
 use lib.Seq.{getD-set-same, getD-set-other}
 use mir.Val.{boolByte}
 use Rattle.lists.specs.Lists.{one-of}
@@ -17,7 +17,7 @@ use Rattle.rows.proofs.Update.{update-same, update-cases}
 use Rattle.model.specs.Sizes.{task-limit, priority-limit}
 use Rattle.model.specs.Rows.{Key, task, suspension, queue, mailbox, message, same-key, valid, Row, TaskRow, Effect}
 use Rattle.model.specs.Codes.{finished, done}
-use Rattle.model.specs.Calls.{View, view-of, names-task, creates, task-priority-of}
+use Rattle.model.specs.Calls.{View, view-of, names-task, task-priority-of}
 use Rattle.model.specs.Errors.{exists}
 use Rattle.model.specs.Waits.{able, wait-number, wait-object}
 use Rattle.model.specs.WaitQueues.{end-wait}
@@ -37,7 +37,6 @@ use Rattle.model.proofs.KeptTasks.{Somewhere, waits-somewhere}
 use Rattle.parts.specs.Tasks.{task-row}
 use Rattle.parts.specs.declared.Task.{Task}
 use Rattle.record.specs.declared.State.{State}
-use Rattle.record.specs.declared.Step.{Step}
 use Rattle.record.specs.Meaning.{task-at, cells-of, abs}
 use Rattle.record.specs.Sound.{Readable}
 use Rattle.record.specs.Step.{Becomes, Does, Accepted}

@@ -10,7 +10,6 @@ cast-t : tie.Need-cast-t
 cast-t c = search needs
 
 cast-waiting : tie.Need-cast-waiting
-unfolding one-of
 cast-waiting c = let h = priority-small (c .before .before .before .before .pre) in omega arith
 
 element-write-waiting : tie.Need-element-write-waiting
