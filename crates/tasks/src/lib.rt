@@ -1,4 +1,5 @@
-// Calls 1 and 19 to 23, which name a task, and the tick (document 01, "Task states and ticks"). No row of the error table applies to the calls.
+// Calls 1 and 19 to 23, which name a task, and the tick (document 01, "Task states and ticks"). A call comes here where no row of the error
+// table applies to it.
 ghost use mathlib.Core.Path.{_≡_};
 ghost use lib.Dec.{T};
 ghost use Rattle.rows.specs.Program.{update};
@@ -67,7 +68,7 @@ fn wait_end(wait: Wait) -> End
     }
 }
 
-// Whether a wait with this end is over when the counter has this value. By equality, so that the counter's wrap makes no difference.
+// Whether a wait with this end is over when the counter has this value. By equality: less-than would go wrong where the counter wraps.
 fn due(end: End, counter: u32) -> bool
     ensures { λ r. ⌜ r ≡ due counter end ⌝ }
 {
@@ -79,7 +80,7 @@ fn due(end: End, counter: u32) -> bool
 
 // ── The calls ──
 
-// The task's suspension becomes this; its wait isn't touched.
+// The task's suspension becomes this.
 fn set_suspension(mut state: State, t: u8, suspended: bool) -> State
     requires { ⌜ Readable state × T (valid (task t)) ⌝ }
     ensures { λ r. ⌜ Becomes state (update same-key (suspension t) suspended (abs state .rows)) r ⌝ }
@@ -98,13 +99,13 @@ fn set_suspension(mut state: State, t: u8, suspended: bool) -> State
     state
 }
 
-// A type that holds the state, so that the calls can be methods: a method stands in the crate of its type.
+// The state by another name: the calls are methods, and a method has to stand in the crate of its type.
 pub struct Tasks {
     pub state: State,
 }
 
 impl Tasks {
-    // 1
+    // 1: "a new task .. is able and not suspended". Its priority is its key in the table of waiting tasks.
     pub fn define_task(self, call: Call) -> Step
         requires { ⌜ Accepted 1 (self .state) call ⌝ }
         ensures { λ r. ⌜ Performs define-task (self .state) call r ⌝ }
@@ -125,7 +126,7 @@ impl Tasks {
         Step { state, answer }
     }
 
-    // 19
+    // 19: a sender's word is withdrawn with its wait, where it stands.
     pub fn rel_wai(self, call: Call) -> Step
         requires { ⌜ Accepted 19 (self .state) call ⌝ }
         ensures { λ r. ⌜ Performs rel-wai (self .state) call r ⌝ }
@@ -136,7 +137,7 @@ impl Tasks {
         Step { state, answer }
     }
 
-    // 20
+    // 20: a task that waits goes on waiting.
     pub fn sus_tsk(self, call: Call) -> Step
         requires { ⌜ Accepted 20 (self .state) call ⌝ }
         ensures { λ r. ⌜ Performs sus-tsk (self .state) call r ⌝ }
@@ -158,7 +159,7 @@ impl Tasks {
         Step { state, answer }
     }
 
-    // 22
+    // 22: the wait's number, its object, and 1 if suspended.
     pub fn look(self, call: Call) -> Step
         requires { ⌜ Accepted 22 (self .state) call ⌝ }
         ensures { λ r. ⌜ Performs look (self .state) call r ⌝ }
@@ -173,7 +174,7 @@ impl Tasks {
         Step { state, answer }
     }
 
-    // 23
+    // 23: the stored pair. Its code reports the ended wait, and is no refusal.
     pub fn fetch(self, call: Call) -> Step
         requires { ⌜ Accepted 23 (self .state) call ⌝ }
         ensures { λ r. ⌜ Performs fetch (self .state) call r ⌝ }
@@ -186,7 +187,7 @@ impl Tasks {
         Step { state, answer }
     }
 
-    // 0: the waits whose end tick is the counter's new value end, from the smallest task number on.
+    // 0: the counter goes on, and waits whose end tick it has reached end with E_TMOUT, in ascending task number; a is how many.
     pub fn tick(self) -> Step
         requires { ⌜ Sound (self .state) ⌝ }
         ensures { λ r. ⌜ Ticked (self .state) r ⌝ }
