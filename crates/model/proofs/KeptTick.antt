@@ -53,14 +53,14 @@ nearer counter (At tick) inside h =
     record { in-range = a; not-sooner = omega arith; not-later = omega arith }
 
 -- An end that isn't due is 1 tick or more away.
-not-due : (counter : ℕ) (end : End) → counter < counter-span → EndAhead counter 0 end → T (not (due counter end)) → EndAhead counter 1 end
+pub not-due : (counter : ℕ) (end : End) → counter < counter-span → EndAhead counter 0 end → T (not (due counter end)) → EndAhead counter 1 end
 not-due counter Never inside h n = tt
 not-due counter (At tick) inside h n =
     let a = h .in-range in
     let d = eqb-no {a = tick} {b = counter} n in
     record { in-range = a; not-sooner = omega arith; not-later = h .not-later }
 
-due-waits : (counter : ℕ) (x : Wait) → T (due counter (wait-end x)) → T (not (able x))
+pub due-waits : (counter : ℕ) (x : Wait) → T (due counter (wait-end x)) → T (not (able x))
 due-waits counter NoWait t = t
 due-waits counter (Sending q end word) t = tt
 due-waits counter (Receiving q end) t = tt
@@ -69,7 +69,7 @@ due-waits counter (AtMailbox b end) t = tt
 -- ── Task by task ──
 
 -- Task `first` is the next.
-abbrev soonest-from : ℕ → ℕ → ℕ
+abbrev pub soonest-from : ℕ → ℕ → ℕ
 soonest-from first t = cond (ltb t first) 1 0
 
 module _ (counter : ℕ) (inside : counter < counter-span) where
@@ -77,7 +77,7 @@ module _ (counter : ℕ) (inside : counter < counter-span) where
     before-turn : t < first → EndAhead counter (soonest-from first t) end → EndAhead counter 1 end
     before-turn h = subst (λ n. EndAhead counter n end) (cond-yes (ltb t first) 1 0 (lt→ltb t first h))
 
-    from-turn : first ≤ t → EndAhead counter (soonest-from first t) end → EndAhead counter 0 end
+    pub from-turn : first ≤ t → EndAhead counter (soonest-from first t) end → EndAhead counter 0 end
     from-turn h = subst (λ n. EndAhead counter n end) (cond-no (ltb t first) 1 0 (no-ltb h))
 
     at-turn : (t < first → EndAhead counter 1 end) → (first ≤ t → EndAhead counter 0 end) → EndAhead counter (soonest-from first t) end
@@ -88,7 +88,7 @@ module _ (counter : ℕ) (inside : counter < counter-span) where
         go false h k = after (k tt)
 
   -- The next task's end is 1 tick or more away: its turn is over.
-  turn-over : (first : ℕ) {m : Program.Rows Row} → WellFormedRows counter (soonest-from first) m → EndAhead counter 1 (wait-end (m (task first) .wait))
+  pub turn-over : (first : ℕ) {m : Program.Rows Row} → WellFormedRows counter (soonest-from first) m → EndAhead counter 1 (wait-end (m (task first) .wait))
       → WellFormedRows counter (soonest-from (suc first)) m
   turn-over first {m} w own = with-ends w (λ t. at-turn (suc first) t (wait-end (m (task t) .wait))
       (λ h. go t h (ℕ-discrete t first)) (λ h. from-turn first t (wait-end (m (task t) .wait)) (omega arith) (w .tasks t .end)))
@@ -114,17 +114,15 @@ module _ (counter : ℕ) (inside : counter < counter-span) where
       (λ no-end. kept-expire n (suc first) count m (omega arith)
       (turn-over first w (not-due counter (wait-end (m (task first) .wait)) inside (from-turn first first (wait-end (m (task first) .wait)) (omega arith) (w .tasks first .end)) no-end))))
 
+-- A tick begins: each end that was 1 tick or more away is 0 or more away.
+pub turns-begin : {counter : ℕ} {m : Program.Rows Row} → counter < counter-span → WellFormedRows counter (λ t. 1) m → WellFormedRows ((counter + 1) % counter-span) (soonest-from 1) m
+turns-begin {counter} {m} inside w = with-ends w (λ t. at-turn ((counter + 1) % counter-span) (omega arith) 1 t (wait-end (m (task t) .wait))
+    (λ h. outside-ends w ((counter + 1) % counter-span) 1 t (outside t (λ low high. omega arith)))
+    (λ h. nearer counter (wait-end (m (task t) .wait)) inside (w .tasks t .end)))
+
 pub kept-tick : (m : Model) → WellFormed m → WellFormed (tick m .state)
 unfolding tick
 kept-tick m w = record {
   counter-in-range = omega arith;
-  rows = kept-expire later (omega arith) _ 1 0 (m .rows) refl (with-ends (w .rows) ends) .holds;
+  rows = kept-expire ((m .environment .counter + 1) % counter-span) (omega arith) _ 1 0 (m .rows) refl (turns-begin (w .counter-in-range) (w .rows)) .holds;
 }
-  where
-    later : ℕ
-    later = (m .environment .counter + 1) % counter-span
-
-    ends : (t : ℕ) → EndAhead later (soonest-from 1 t) (wait-end (m .rows (task t) .wait))
-    ends t = at-turn later (omega arith) 1 t (wait-end (m .rows (task t) .wait))
-        (λ h. outside-ends (w .rows) later 1 t (outside t (λ low high. omega arith)))
-        (λ h. nearer (m .environment .counter) (wait-end (m .rows (task t) .wait)) (w .counter-in-range) (w .rows .tasks t .end))

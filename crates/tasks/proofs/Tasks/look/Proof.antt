@@ -1,0 +1,45 @@
+-- `look` answers what the task's cell says: the call has that cell in view.
+use native.Mathlib.Omega.{arith}
+use borrow.Author.Needs.{needs}
+use Rattle.lists.specs.Lists.{one-of}
+use Rattle.tasks.proofs.Laws.{object-range, wait-looked-at}
+use Rattle.tasks.proofs.Tasks.look.Statement.{statement}
+use Rattle.tasks.proofs.Tasks.look.Tie as tie
+
+cast-t : tie.Need-cast-t
+cast-t c = search needs
+
+mul-task : tie.Need-mul-task
+mul-task c = search needs
+
+element-copy-out-task : tie.Need-element-copy-out-task
+unfolding one-of
+element-copy-out-task c = let h = object-range (c .before .before .pre) tt in omega arith
+
+wait-number-requires : tie.Need-wait-number-requires
+wait-number-requires c κs = search needs
+
+wait-object-requires : tie.Need-wait-object-requires
+wait-object-requires c κs = search needs
+
+cast-finished : tie.Need-cast-finished
+cast-finished c = search needs
+
+finished-requires : tie.Need-finished-requires
+finished-requires c κs = search needs
+
+returns : tie.Need-returns
+returns c = wait-looked-at (c .before .before .before .before .before .before .before .pre) (c .before .before .before .wait-number .ensures) (c .before .before .wait-object .ensures) (c .finished .ensures)
+
+pub look-spec : {M : Type 1} → statement M
+look-spec =
+    tie.close
+    (tie.spec
+    cast-t
+    mul-task
+    element-copy-out-task
+    wait-number-requires
+    wait-object-requires
+    cast-finished
+    finished-requires
+    returns)
