@@ -1,7 +1,7 @@
 -- A call is refused exactly where its refusal isn't E_OK: no row of the table has that code.
 use mathlib.Core.Path.{_≡_, refl}
 use mathlib.Core.Bool.{Bool, true, false, not, _||_, cond}
-use mathlib.Core.List.{List, [], _∷_}
+use mathlib.Core.List.{List}
 use lib.Dec.{T}
 use mir.Facts.{T-not-not}
 use Rattle.lists.specs.Lists.{Each, none, both}
@@ -11,7 +11,7 @@ use Rattle.model.specs.declared.Code.{Code}
 use Rattle.model.specs.Errors.{ErrorRow, error-table, some-applies, first-that-applies, refused, refusal}
 use Rattle.errors.specs.Seen.{is-ok}
 
--- A row that applies refuses.
+-- The row has an error's code.
 abbrev Refuses : ErrorRow → Type 0
 Refuses row = is-ok (row .code) ≡ false
 
@@ -19,7 +19,7 @@ table-refuses : (v : View) (c : Call) → Each Refuses (error-table true v c)
 unfolding error-table
 table-refuses v c = both refl (both refl (both refl (both refl (both refl (both refl (both refl (both refl (both refl (both refl (both refl (both refl none)))))))))))
 
--- One row more.
+-- With one row more ahead.
 row-more : (applies : Bool) (code rest : Code) (other : Bool) → is-ok code ≡ false → is-ok rest ≡ not other → is-ok (cond applies code rest) ≡ not (applies || other)
 row-more true code rest other refuses e = refuses
 row-more false code rest other refuses e = e

@@ -1,5 +1,5 @@
 -- The code of the first row that applies, found row by row from what the tests of the code answered: by the rows passed.
-use mathlib.Core.Path.{_≡_, refl, sym, _∙_}
+use mathlib.Core.Path.{_≡_, sym, _∙_}
 use mathlib.Core.Bool.{Bool, true, false}
 use mathlib.Core.List.{List, _∷_}
 use Rattle.model.specs.declared.Code.{Code}

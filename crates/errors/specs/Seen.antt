@@ -1,4 +1,4 @@
--- What the error table asks of the rows that a call has in view (crates/model/specs/Calls.antt, `View`), as the code is handed it.
+-- What the code is handed of the rows that a call has in view (crates/model/specs/Calls.antt, `View`): all that the error table asks of them.
 use mathlib.Core.Path.{_≡_}
 use mathlib.Core.Bool.{Bool, true, false}
 use mathlib.Core.List.{List}
@@ -42,11 +42,11 @@ pub record Shows (v : View) (y : Seen) : Type 0 where
   pub mailbox : ShowsMailbox (v .the-mailbox) (y .mailbox)
   pub free : y .«message_free» ≡ eqb (v .the-message .queued-in) 0
 
--- The rows of the table from step 5 on.
+-- The rows of the table from step 5 on: step 1 has two of the six before.
 abbrev pub from-step-5 : View → Call → List ErrorRow
 from-step-5 v c = drop 6 (error-table true v c)
 
--- The code of a call that no row of the table refuses.
+-- E_OK alone: the code of a call that no row of the table refuses (proofs/Laws.antt).
 abbrev pub is-ok : Code → Bool
 is-ok Ok = true
 is-ok Sys = false

@@ -15,7 +15,15 @@ names-mailbox-requires c κs = search needs
 
 returns : tie.Need-returns
 unfolding exists
-returns c v shows = simp (c .before .before .before .before .before .names-task .ensures, c .before .before .before .names-queue .ensures, c .before .names-mailbox .ensures, shows .task .defined, shows .queue .defined, shows .mailbox .defined)
+returns c v shows =
+    simp (
+      c .before .before .before .before .before .names-task .ensures,
+      c .before .before .before .names-queue .ensures,
+      c .before .names-mailbox .ensures,
+      shows .task .defined,
+      shows .queue .defined,
+      shows .mailbox .defined,
+    )
 
 pub exists-spec : {M : Type 1} → statement M
 exists-spec =

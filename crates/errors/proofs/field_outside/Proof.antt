@@ -22,7 +22,15 @@ highest-outside-requires : tie.Need-highest-outside-requires
 highest-outside-requires c κs = search needs
 
 returns : tie.Need-returns
-returns c = simp (c .before .before .before .before .before .tmout-outside .ensures, c .before .before .before .before .attribute-outside .ensures, c .before .before .before .capacity-outside .ensures, c .before .before .task-priority-outside .ensures, c .before .message-outside .ensures, c .highest-outside .ensures)
+returns c =
+    simp (
+      c .before .before .before .before .before .tmout-outside .ensures,
+      c .before .before .before .before .attribute-outside .ensures,
+      c .before .before .before .capacity-outside .ensures,
+      c .before .before .task-priority-outside .ensures,
+      c .before .message-outside .ensures,
+      c .highest-outside .ensures,
+    )
 
 pub field-outside-spec : {M : Type 1} → statement M
 field-outside-spec =

@@ -21,7 +21,14 @@ within-requires c κs = search needs
 
 returns : tie.Need-returns
 unfolding message-priority-outside
-returns c v shows = simp (c .before .before .before .messages-by-priority .ensures, c .before .names-message .ensures, c .within .ensures, shows .mailbox .attribute, shows .mailbox .highest)
+returns c v shows =
+    simp (
+      c .before .before .before .messages-by-priority .ensures,
+      c .before .names-message .ensures,
+      c .within .ensures,
+      shows .mailbox .attribute,
+      shows .mailbox .highest,
+    )
 
 pub message-priority-outside-spec : {M : Type 1} → statement M
 message-priority-outside-spec =

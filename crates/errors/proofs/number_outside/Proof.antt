@@ -27,7 +27,15 @@ within-requires-3 c κs = search needs
 
 returns : tie.Need-returns
 unfolding number-outside
-returns c = simp (c .before .before .before .before .before .names-task .ensures, c .before .before .before .before .within .ensures, c .before .before .before .names-queue .ensures, c .before .before .within2 .ensures, c .before .names-mailbox .ensures, c .within3 .ensures)
+returns c =
+    simp (
+      c .before .before .before .before .before .names-task .ensures,
+      c .before .before .before .before .within .ensures,
+      c .before .before .before .names-queue .ensures,
+      c .before .before .within2 .ensures,
+      c .before .names-mailbox .ensures,
+      c .within3 .ensures,
+    )
 
 pub number-outside-spec : {M : Type 1} → statement M
 number-outside-spec =

@@ -15,7 +15,15 @@ names-message-requires c κs = search needs
 
 returns : tie.Need-returns
 unfolding wrong-state
-returns c v shows = simp (c .before .before .before .before .before .before .creates .ensures, c .before .before .before .before .before .exists .ensures v shows, c .before .before .before .before .names-message .ensures, shows .free, shows .task .able, shows .task .suspended)
+returns c v shows =
+    simp (
+      c .before .before .before .before .before .before .creates .ensures,
+      c .before .before .before .before .before .exists .ensures v shows,
+      c .before .before .before .before .names-message .ensures,
+      shows .free,
+      shows .task .able,
+      shows .task .suspended,
+    )
 
 pub wrong-state-spec : {M : Type 1} → statement M
 wrong-state-spec =
