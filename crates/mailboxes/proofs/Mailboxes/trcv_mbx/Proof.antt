@@ -1,3 +1,5 @@
+use mir.Syntax.{w32}
+use mir.Facts.{toZ-ofZ}
 use Rattle.lists.specs.Lists.{one-of}
 use Rattle.record.specs.Meaning.{abs}
 use Rattle.mailboxes.proofs.Calls.{caller-waitable, received}
@@ -14,7 +16,11 @@ receive-until-requires c κs = caller-waitable (c .before .before .before .pre) 
 
 returns : tie.Need-returns
 unfolding one-of abs
-returns c = received (c .before .before .before .before .pre) tt tt tt (c .before .end-of .ensures) (c .receive-until .ensures)
+returns c =
+    let start = c .before .before .before .before in
+    let told = c .before .before .struct-told .given .1 .1 .1 .1 .1 .1 .0 .1 in
+    let tmout-is = toZ-ofZ {w = w32} {z = start .args .call .tmout} (record { sfits = told }) in
+    received (start .pre) tt tt tt (rw tmout-is at (c .before .end-of .ensures)) (c .receive-until .ensures)
 
 pub trcv-mbx-spec : {M : Type 1} → statement M
 trcv-mbx-spec = tie.close (tie.spec end-of-requires receive-until-requires returns)
