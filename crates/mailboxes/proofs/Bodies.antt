@@ -1,23 +1,22 @@
 -- What the bodies ask and leave: the promises of the chains and of the waits, followed along each program.
 use mathlib.Core.Path.{_≡_, refl, sym, ap, _∙_, subst}
 use mathlib.Core.Bool.{Bool, true, false, not, cond, _||_}
-use mathlib.Core.List.{List, [], _∷_, map, tail, headD, List·Memᴰ as In}
+use mathlib.Core.List.{List, [], _∷_, map, headD, List·Memᴰ as In}
 use mathlib.Core.Logic.{_≢_}
 use Prim.Native.Nat.{ℕ, _+_, _<_, _≤_}
 use native.Mathlib.Omega.{arith}
 use lib.Dec.{T, eqb}
 use lib.ListN.{length, getD, set, length-set, length-map}
-use Rattle.lists.specs.Lists.{empty, insert-at, passed, one-of}
+use Rattle.lists.specs.Lists.{empty, one-of}
 use Rattle.lists.proofs.Stands.{in-head}
 use Rattle.lists.proofs.Tests.{is-eqb, passed-test}
-use Rattle.rows.specs.Program as Program
 use Rattle.rows.specs.Program.{update, run}
 use Rattle.rows.proofs.Run.{run-yes, run-no}
-use Rattle.chain.specs.Table.{key-cells, lists, chain-of, keys-of}
+use Rattle.chain.specs.Table.{lists, chain-of, keys-of}
 use Rattle.chain.specs.Changes.{HasChain, Insertable, Inserted, Popped}
 use Rattle.chain.proofs.Laws.{list-range, inserted-place, keys-of-free}
-use Rattle.model.specs.Sizes.{task-limit, mailbox-limit, message-limit, priority-limit}
-use Rattle.model.specs.Rows.{task, mailbox, message, same-key, valid, Row, MailboxRow, MessageRow, Effect, waiters-by-priority, messages-by-priority}
+use Rattle.model.specs.Sizes.{mailbox-limit, message-limit, priority-limit}
+use Rattle.model.specs.Rows.{task, mailbox, message, same-key, valid, MailboxRow, MessageRow, Effect, waiters-by-priority, messages-by-priority}
 use Rattle.model.specs.Codes.{finished}
 use Rattle.model.specs.declared.End.{End}
 use Rattle.model.specs.declared.Wait.the-variants.{AtMailbox}
@@ -29,14 +28,12 @@ use Rattle.model.proofs.Choices.{cond-yes}
 use Rattle.model.proofs.Tests.{from-within, to-within}
 use Rattle.model.proofs.WaitMoves.{defined-mailbox}
 use Rattle.model.proofs.After.{After, after-return, after-get, after-put, after-get-each}
-use Rattle.parts.specs.Chains.{task-chains, message-chains, messages-in}
-use Rattle.parts.specs.Mailboxes.{kept-attribute}
+use Rattle.parts.specs.Chains.{message-chains, messages-in}
 use Rattle.parts.proofs.Empty.{chain-zero}
 use Rattle.record.specs.declared.State.{State}
 use Rattle.record.specs.declared.Step.{Step}
 use Rattle.record.specs.Meaning.{mailbox-at, keeps-priorities, abs}
 use Rattle.record.specs.Meaning as meaning
-use Rattle.record.specs.Sound.{Readable, Sound}
 use Rattle.record.specs.Step.{Becomes, Does}
 use Rattle.record.proofs.Rows.{row-is}
 use Rattle.record.proofs.Standing.{messages-are}
@@ -44,7 +41,7 @@ use Rattle.record.proofs.Keys.{kept-priorities-are}
 use Rattle.record.proofs.Laws as laws
 use Rattle.waits.specs.Waiting.{chain-list, ChainOf, OnChain, Releasable, Released, Joinable, Joined}
 use Rattle.waits.proofs.Laws.{rows-of, standing-chain}
-use Rattle.mailboxes.specs.Bodies.{mailbox-of, OnMailbox, Deliverable, Queueable, Takeable, Waitable}
+use Rattle.mailboxes.specs.Bodies.{mailbox-in, OnMailbox, Deliverable, Queueable, Takeable, Waitable}
 use Rattle.mailboxes.proofs.Laws.{has-messages, message-inserted, message-popped}
 
 -- ── Steps ──
@@ -96,7 +93,7 @@ module _ {s : State} {b : ℕ} (a : OnMailbox s b) where
   cell-defined : T (mailbox-at s b .defined)
   cell-defined = subst (λ (x : MailboxRow). T (x .defined)) (row-is s (mailbox b) valid-number) (a .defined)
 
-  pub attribute-is : mailbox-of s b .attribute ≡ mailbox-at s b .attribute
+  pub attribute-is : mailbox-in s b .attribute ≡ mailbox-at s b .attribute
   attribute-is = ap (λ (x : MailboxRow). x .attribute) (row-is s (mailbox b) valid-number) ∙ cond-yes (mailbox-at s b .defined) _ _ cell-defined
 
   pub on-waiters : OnChain s (32 + b)
@@ -105,13 +102,13 @@ module _ {s : State} {b : ℕ} (a : OnMailbox s b) where
   pub own-chain : ChainOf (waiters-of b) (32 + b)
   own-chain = record { valid-object = valid-number; chain-is = refl }
 
-  pub waiters-are : mailbox-of s b .waiters ≡ chain-list s (32 + b)
+  pub waiters-are : mailbox-in s b .waiters ≡ chain-list s (32 + b)
   waiters-are = standing-chain s (waiters-of b) valid-number
 
   pub on-messages : HasChain message-limit message-chains b (s .messages .link)
   on-messages = has-messages (a .sound .readable) b valid-number
 
-  pub queued-are : mailbox-of s b .messages ≡ getD (lists message-limit message-chains (s .messages .link)) b []
+  pub queued-are : mailbox-in s b .messages ≡ getD (lists message-limit message-chains (s .messages .link)) b []
   unfolding messages-in
   queued-are = messages-are s b valid-number
 
@@ -121,7 +118,7 @@ module _ {s : State} {b : ℕ} (a : Deliverable s b) where
   pub releasable : Releasable s (32 + b)
   releasable = record { on = on-waiters (a .on); someone = rw (waiters-are (a .on)) at (a .someone) }
 
-  pub delivered : {g : ℕ} {r : State} → Released s (32 + b) g r → Does (deliver-message b (mailbox-of s b) g) s (record { state = r; answer = finished E-OK 0 0 0 })
+  pub delivered : {g : ℕ} {r : State} → Released s (32 + b) g r → Does (deliver-message b (mailbox-in s b) g) s (record { state = r; answer = finished E-OK 0 0 0 })
   unfolding deliver-message release set-standing same-key update
   delivered p = does (after-put (after-get (after-put (after-return (p .becomes (waiters-of b) (own-chain (a .on)), refl)))))
 
@@ -132,10 +129,10 @@ module _ {s : State} {b me : ℕ} (a : Waitable s b me) where
   joinable = record { on = on-waiters (a .on); defined = a .defined; able = a .able }
 
   pub waiting : {ranked : Bool} {end : End} {r : Step} → ranked ≡ waiters-by-priority (mailbox-at s b .attribute) → Joined s (32 + b) me ranked (AtMailbox b end) r
-      → Does (wait-for-message b (mailbox-of s b) me (abs s .rows (task me)) end) s r
+      → Does (wait-for-message b (mailbox-in s b) me (abs s .rows (task me)) end) s r
   unfolding wait-for-message set-standing
   waiting e p =
-      let by : _ ≡ waiters-by-priority (mailbox-of s b .attribute) = e ∙ ap waiters-by-priority (sym (attribute-is (a .on))) in
+      let by : _ ≡ waiters-by-priority (mailbox-in s b .attribute) = e ∙ ap waiters-by-priority (sym (attribute-is (a .on))) in
       does (after-get-each task _ _ _ (after-put (after-put (after-return
       (rw by at (p .becomes (waiters-of b) (own-chain (a .on))), rw by at (p .answer-is (waiters-of b) (own-chain (a .on))))))))
 
@@ -143,7 +140,7 @@ module _ {s : State} {b me : ℕ} (a : Waitable s b me) where
 
 module _ {s : State} {b : ℕ} (a : Takeable s b) where
   module _ {g : ℕ} {link : List ℕ} (p : Popped message-limit message-chains b (s .messages .link) link g) where
-    head-is : headD (mailbox-of s b .messages) 0 ≡ g
+    head-is : headD (mailbox-in s b .messages) 0 ≡ g
     head-is = ap (λ (l : List ℕ). headD l 0) (queued-are (a .on)) ∙ sym (p .first-is)
 
     head-valid : T (valid (message g))
@@ -152,7 +149,7 @@ module _ {s : State} {b : ℕ} (a : Takeable s b) where
         let r = list-range (on-messages (a .on)) i in
         to-within 1 message-limit g (r .0) (r .1)
 
-    pub taken : Does (take-message b (mailbox-of s b)) s (record { state = laws.with-messages (record { link = link; key = s .messages .key }) s; answer = finished E-OK g 0 0 })
+    pub taken : Does (take-message b (mailbox-in s b)) s (record { state = laws.with-messages (record { link = link; key = s .messages .key }) s; answer = finished E-OK g 0 0 })
     unfolding take-message messages-in
     taken = does (after-put (after-put (after-return
         (rw (head-is, queued-are (a .on)) (message-popped (a .on .sound .readable) b (valid-number (a .on)) p head-valid), ap (λ n. finished E-OK n 0 0) (sym head-is)))))
@@ -177,7 +174,7 @@ module _ {s : State} {b g priority : ℕ} (a : Queueable s b g priority) where
   }
 
   abbrev by-priority : Bool
-  by-priority = messages-by-priority (mailbox-of s b .attribute)
+  by-priority = messages-by-priority (mailbox-in s b .attribute)
 
   module _ {ranked : Bool} (ranked-is : ranked ≡ messages-by-priority (mailbox-at s b .attribute)) where
     pub ranked-by : ranked ≡ by-priority
@@ -192,7 +189,7 @@ module _ {s : State} {b g priority : ℕ} (a : Queueable s b g priority) where
       queue-place-fits = inserted-place p (on-messages (a .on))
 
       abbrev keys : List ℕ
-      keys = map (λ j. abs s .rows (message j) .priority) (mailbox-of s b .messages)
+      keys = map (λ j. abs s .rows (message j) .priority) (mailbox-in s b .messages)
 
       place-is : n ≡ place by-priority priority keys
       unfolding place messages-in
@@ -215,7 +212,7 @@ module _ {s : State} {b g priority : ℕ} (a : Queueable s b g priority) where
           ap (λ x. cond x rank 0) (cond-yes (valid (mailbox b)) _ false (valid-number (a .on)) ∙ sym (ap (λ (x : MailboxRow). messages-by-priority (x .attribute)) (row-is s (mailbox b) (valid-number (a .on)))))
           ∙ (ap (λ x. cond by-priority x 0) (rank-is ∙ rw ranked-by refl) ∙ kept-twice by-priority priority)
 
-      pub queued : Does (queue-message b (mailbox-of s b) g priority) s (record { state = laws.with-messages (record { link = link; key = set (s .messages .key) g rank }) s; answer = finished E-OK n 0 0 })
+      pub queued : Does (queue-message b (mailbox-in s b) g priority) s (record { state = laws.with-messages (record { link = link; key = set (s .messages .key) g rank }) s; answer = finished E-OK n 0 0 })
       unfolding queue-message messages-in
       queued = does (after-get-each message _ _ _ (after-put (after-put (after-return
           (rw (← place-is, ← rank-kept, queued-are (a .on)) (message-inserted (a .on .sound .readable) b (valid-number (a .on)) rank (queue-insertable rank) p), ap (λ n. finished E-OK n 0 0) place-is)))))
@@ -227,10 +224,10 @@ module _ {s : State} {b : ℕ} (a : OnMailbox s b) {head : ℕ} (head-is : head 
   head-takeable some = record { on = a; something = rw (queued-are a) (has-head _ head-is some) }
 
   module _ (otherwise : Effect) {r : Step} where
-    pub received-head : head ≢ 0 → Does (take-message b (mailbox-of s b)) s r → Does (receive-message b (mailbox-of s b) otherwise) s r
+    pub received-head : head ≢ 0 → Does (take-message b (mailbox-in s b)) s r → Does (receive-message b (mailbox-in s b) otherwise) s r
     unfolding receive-message
     received-head some d = does-rest (run-yes same-key _ _ _ _ (head-takeable some .something)) refl d
 
-    pub received-none : head ≡ 0 → Does otherwise s r → Does (receive-message b (mailbox-of s b) otherwise) s r
+    pub received-none : head ≡ 0 → Does otherwise s r → Does (receive-message b (mailbox-in s b) otherwise) s r
     unfolding receive-message
     received-none none d = does-rest (run-no same-key _ _ _ _ (nobody (queued-are a ∙ chain-zero (on-messages a) head-is .then-empty none))) refl d

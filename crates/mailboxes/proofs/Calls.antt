@@ -7,7 +7,7 @@ use Prim.Native.Nat.{ℕ, _+_, _≤_}
 use native.Mathlib.Omega.{arith}
 use lib.Dec.{T}
 use lib.ListN.{getD}
-use mir.Facts.{T-not-not, and-yes}
+use mir.Facts.{and-yes}
 use Rattle.lists.specs.Lists.{empty, one-of}
 use Rattle.rows.specs.Program.{update}
 use Rattle.rows.proofs.Run.{run-yes, run-no}
@@ -15,33 +15,31 @@ use Rattle.chain.specs.Table.{lists}
 use Rattle.chain.specs.Changes.{HasChain, Changed}
 use Rattle.model.specs.Sizes.{mailbox-limit, message-limit, priority-limit, within}
 use Rattle.model.specs.Rows.{task, mailbox, message, valid, same-key, TaskRow, MailboxRow, messages-by-priority, no-mailbox}
-use Rattle.model.specs.Codes.{finished, done}
+use Rattle.model.specs.Codes.{finished}
 use Rattle.model.specs.Calls.{names-task, names-queue, names-mailbox, names-message, message-of, highest-of, message-priority-of, View, view-of}
 use Rattle.model.specs.Errors.{task-only, exists, polls, would-wait}
-use Rattle.model.specs.Mailboxes.{free-messages, deliver-message, queue-message, take-message, wait-for-message, send-message, receive-message, cre-mbx, del-mbx, snd-mbx, prcv-mbx, ref-mbx}
+use Rattle.model.specs.Mailboxes.{deliver-message, queue-message, take-message, wait-for-message, send-message, receive-message, cre-mbx, del-mbx, snd-mbx, prcv-mbx, ref-mbx}
 use Rattle.model.specs.WellFormed.{waiters-of}
 use Rattle.model.specs.declared.Call.{Call}
 use Rattle.model.specs.declared.Code.the-variants.{Ok as E-OK, Dlt as E-DLT}
 use Rattle.model.specs.declared.End.{End}
-use Rattle.model.specs.declared.Wait.the-variants.{NoWait}
 use Rattle.model.proofs.Checked.{exists-already, exists-not, caller-defined, caller-able, message-free, message-priority, mailbox-attribute, mailbox-highest}
 use Rattle.model.proofs.Tests.{from-within, neither-left, neither-right, not-both}
 use Rattle.model.proofs.After.{after-return, after-put, after-free-messages}
 use Rattle.model.proofs.Standing.{put-twice}
-use Rattle.parts.specs.Chains.{task-chains, message-chains, tasks-in, messages-in}
+use Rattle.parts.specs.Chains.{message-chains}
 use Rattle.parts.proofs.Empty.{chain-zero}
-use Rattle.parts.specs.declared.Mailbox.{Mailbox}
 use Rattle.record.specs.declared.State.{State}
 use Rattle.record.specs.declared.Step.{Step}
 use Rattle.record.specs.Meaning.{abs}
-use Rattle.record.specs.Step.{Becomes, Does, Accepted, Performs}
+use Rattle.record.specs.Step.{Does, Accepted, Performs}
 use Rattle.record.proofs.Accepted.{passed, valid-mailbox, valid-message, caller-is, the-mailbox-is, the-message-is}
 use Rattle.record.proofs.Standing.{standing-is, messages-are}
 use Rattle.record.proofs.Laws.{with-mailbox, and-then, meaning}
 use Rattle.record.proofs.Laws as laws
-use Rattle.waits.specs.Waiting.{chain-list, OnChain, Clearable, Cleared, AllEnded}
+use Rattle.waits.specs.Waiting.{chain-list, Clearable, Cleared, AllEnded}
 use Rattle.waits.proofs.Laws.{rows-of, has-chain}
-use Rattle.mailboxes.specs.Bodies.{mailbox-of, OnMailbox, Deliverable, Queueable, Takeable, Waitable}
+use Rattle.mailboxes.specs.Bodies.{mailbox-in, OnMailbox, Deliverable, Queueable, Takeable, Waitable}
 use Rattle.mailboxes.proofs.Laws.{has-messages, messages-cleared, no-message-left, mailbox-put}
 use Rattle.mailboxes.proofs.Bodies.{does, does-rest, has-head, nobody, kept-twice, valid-number, on-waiters, own-chain, waiters-are, queued-are}
 
@@ -72,10 +70,10 @@ module _ {n : ℕ} {s : State} {c : Call} (a : Accepted n s c) (k : T (on-mailbo
   object-range = from-within 1 mailbox-limit (c .object) object-valid
 
   -- The mailbox in view is the record's.
-  pub shown : seen .the-mailbox ≡ mailbox-of s (c .object)
+  pub shown : seen .the-mailbox ≡ mailbox-in s (c .object)
   shown = the-mailbox-is a named
 
-  exists-is : exists seen c ≡ mailbox-of s (c .object) .defined
+  exists-is : exists seen c ≡ mailbox-in s (c .object) .defined
   unfolding exists
   exists-is = third (names-task c) (names-queue c) (names-mailbox c) _ _ _ (rw (a .number-is) k) ∙ ap (λ (x : MailboxRow). x .defined) shown
 
@@ -83,7 +81,7 @@ module _ {n : ℕ} {s : State} {c : Call} (a : Accepted n s c) (k : T (on-mailbo
   pub on-object : T (not (one-of n (1 ∷ 2 ∷ 12 ∷ []))) → OnMailbox s (c .object)
   on-object h = record { sound = a .sound; defined = subst T exists-is (exists-already (passed a) (rw (a .number-is) h)) }
 
-  pub not-yet : T (one-of n (1 ∷ 2 ∷ 12 ∷ [])) → T (not (mailbox-of s (c .object) .defined))
+  pub not-yet : T (one-of n (1 ∷ 2 ∷ 12 ∷ [])) → T (not (mailbox-in s (c .object) .defined))
   not-yet h = subst (λ x. T (not x)) exists-is (exists-not (passed a) (rw (a .number-is) h))
 
   -- The caller of a call of tasks alone can wait.
@@ -100,7 +98,7 @@ module _ {n : ℕ} {s : State} {c : Call} (a : Accepted n s c) (k : T (on-mailbo
 
     -- A receive in document 01's words: with the rows in view.
     pub received : {given end : End} {r : Step} → given ≡ end
-        → Does (receive-message (c .object) (mailbox-of s (c .object)) (wait-for-message (c .object) (mailbox-of s (c .object)) (c .caller) (abs s .rows (task (c .caller))) given)) s r
+        → Does (receive-message (c .object) (mailbox-in s (c .object)) (wait-for-message (c .object) (mailbox-in s (c .object)) (c .caller) (abs s .rows (task (c .caller))) given)) s r
         → Does (receive-message (c .object) (seen .the-mailbox) (wait-for-message (c .object) (seen .the-mailbox) (c .caller) (seen .caller) end)) s r
     received e d = rw (shown, caller-is a task-calls, ← e) d
 
@@ -159,9 +157,11 @@ module _ {s : State} {c : Call} (a : Accepted 13 s c) where
         let no-waiter = sym (standing-is u (waiters-of b) valid-b) ∙ waits-over .no-one in
         rw (shown a tt, ← waits-over .messages b)
         (does-rest (waits-over .runs _) (waits-over .counter-is)
-        (does (after-free-messages _ _ (abs u .rows) (after-put (after-return
-        (meaning (ap (update same-key (mailbox b) no-mailbox) (freed .rows-are) ∙ put-twice (mailbox b) _ _ _)
-        (and-then freed (mailbox-put (freed .readable) b valid-b _ no-waiter (no-message-left (waits-over .sound .readable) b valid-b d))), refl))))))
+        (does (after-free-messages _ _ (abs u .rows) (after-put (after-return (
+          meaning (ap (update same-key (mailbox b) no-mailbox) (freed .rows-are) ∙ put-twice (mailbox b) _ _ _)
+              (and-then freed (mailbox-put (freed .readable) b valid-b _ no-waiter (no-message-left (waits-over .sound .readable) b valid-b d))),
+          refl,
+        ))))))
 
 -- ── 14 ──
 
@@ -183,7 +183,7 @@ module _ {s : State} {c : Call} (a : Accepted 14 s c) where
     valid-message = valid-message a names-it;
     is-free = rw (the-message-is a names-it) at (message-free (passed a) names-it);
     in-range = λ t.
-        let low : message-priority-of c ≤ mailbox-of s (c .object) .highest = rw (shown a tt) at (message-priority (passed a) names-it (rw (shown a tt) t) .1) in
+        let low : message-priority-of c ≤ mailbox-in s (c .object) .highest = rw (shown a tt) at (message-priority (passed a) names-it (rw (shown a tt) t) .1) in
         let high = rows-of (a .sound) .mailboxes (c .object) .highest-in-range t .1 in
         omega arith;
   }
@@ -193,11 +193,11 @@ module _ {s : State} {c : Call} (a : Accepted 14 s c) where
       pub message-deliverable : Deliverable s (c .object)
       message-deliverable = record { on = on-sent; someone = rw (waiters-are on-sent) (has-head _ waiter-is some) }
 
-      pub sent-delivered : {r : Step} → Does (deliver-message (c .object) (mailbox-of s (c .object)) (message-of c)) s r → Performs snd-mbx s c r
+      pub sent-delivered : {r : Step} → Does (deliver-message (c .object) (mailbox-in s (c .object)) (message-of c)) s r → Performs snd-mbx s c r
       unfolding send-message one-of
       sent-delivered d = rw (shown a tt) (does-rest (run-yes same-key _ _ _ _ (message-deliverable .someone)) refl d)
 
-    pub sent-queued : waiter ≡ 0 → {r : Step} → Does (queue-message (c .object) (mailbox-of s (c .object)) (message-of c) (message-priority-of c)) s r → Performs snd-mbx s c r
+    pub sent-queued : waiter ≡ 0 → {r : Step} → Does (queue-message (c .object) (mailbox-in s (c .object)) (message-of c) (message-priority-of c)) s r → Performs snd-mbx s c r
     unfolding send-message one-of
     sent-queued none d = rw (shown a tt) (does-rest (run-no same-key _ _ _ _ (nobody (waiters-are on-sent ∙ chain-zero (has-chain (on-waiters on-sent)) waiter-is .then-empty none))) refl d)
 
@@ -213,7 +213,7 @@ module _ {s : State} {c : Call} (a : Accepted 16 s c) where
       let third-kind : T (not (within 15 17 (c .number) && empty (v .the-mailbox .messages))) = search (goes, neither-left, neither-right) in
       record { on = on-object a tt tt; something = rw (shown a tt) at (not-both (within 15 17 (c .number)) (empty (v .the-mailbox .messages)) third-kind (rw (a .number-is) tt)) }
 
-  pub polled : {r : Step} → Does (take-message (c .object) (mailbox-of s (c .object))) s r → Performs prcv-mbx s c r
+  pub polled : {r : Step} → Does (take-message (c .object) (mailbox-in s (c .object))) s r → Performs prcv-mbx s c r
   unfolding receive-message one-of
   polled d = rw (shown a tt) (does-rest (run-yes same-key _ _ _ _ (poll-takeable .something)) refl d)
 

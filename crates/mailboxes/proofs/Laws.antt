@@ -1,43 +1,37 @@
 -- A changed mailbox or chain of messages is the mailbox's row and its messages' rows changed: row by row, the others being read from cells that are as they were.
-use mathlib.Core.Path.{_≡_, refl, sym, ap, _∙_, subst, fun-ext}
-use mathlib.Core.Bool.{Bool, true, false, not, cond}
-use mathlib.Core.List.{List, [], map, tail, headD, List·Memᴰ as In, List·Memᴰ·not-nil}
+use mathlib.Core.Path.{_≡_, refl, ap, _∙_, fun-ext}
+use mathlib.Core.Bool.{Bool, cond}
+use mathlib.Core.List.{List, [], tail, List·Memᴰ as In, List·Memᴰ·not-nil}
 use mathlib.Core.Logic.{_≢_}
-use Prim.Native.Nat.{ℕ, _<_, _≤_}
+use Prim.Native.Nat.{ℕ, _<_}
 use native.Mathlib.Omega.{arith}
-use native.Mathlib.Decide.{ℕ-discrete}
-use lib.Dec.{T, eqb}
-use lib.ListN.{length, getD, set, length-set, length-map}
+use lib.Dec.{T, T-not, eqb}
+use lib.ListN.{length, getD, set, length-set}
 use lib.Seq.{getD-set-same, getD-set-other}
 use borrow.Author.Tests.{eq-eqb, ne-eqb}
-use Rattle.lists.specs.Lists.{empty, insert-at, passed, one-of}
+use Rattle.lists.specs.Lists.{insert-at}
 use Rattle.lists.specs.Tests.{Whether, holds, fails}
 use Rattle.lists.proofs.Members.{is-one-of}
-use Rattle.lists.proofs.Stands.{in-head}
-use Rattle.rows.specs.Program as Program
 use Rattle.rows.specs.Program.{update}
 use Rattle.rows.proofs.Update.{update-cases}
-use Rattle.chain.specs.Table.{key-cells, lists, chain-of, keys-of}
+use Rattle.chain.specs.Table.{key-cells}
 use Rattle.chain.specs.Changes.{HasChain, Changed, Insertable, Inserted, Popped}
-use Rattle.chain.specs.declared.Chains.{Chains}
 use Rattle.chain.proofs.Standing.{stands-there, new-list, other-list}
-use Rattle.chain.proofs.Laws.{list-range, inserted-standing, popped-standing, cleared-standing, inserted-place, keys-of-free}
-use Rattle.model.specs.Sizes.{task-limit, mailbox-limit, message-limit}
-use Rattle.model.specs.Rows.{Key, task, suspension, queue, mailbox, message, same-key, valid, Row, MailboxRow, MessageRow, messages-by-priority, free, nothing, with-messages}
+use Rattle.chain.proofs.Laws.{inserted-standing, popped-standing, cleared-standing}
+use Rattle.model.specs.Sizes.{mailbox-limit, message-limit}
+use Rattle.model.specs.Rows.{Key, task, suspension, queue, mailbox, message, same-key, valid, Row, MessageRow, free, nothing, with-messages}
 use Rattle.model.specs.WellFormed.{waiters-of}
-use Rattle.model.proofs.Choices.{cond-yes, cond-no}
 use Rattle.model.proofs.Tests.{from-within, to-within}
 use Rattle.model.proofs.RowMoves.{with-message-rows, freed}
-use Rattle.parts.specs.Chains.{task-chains, message-chains, tasks-in, messages-in}
-use Rattle.parts.specs.Mailboxes.{kept-attribute, mailbox-row}
+use Rattle.parts.specs.Chains.{message-chains, tasks-in, messages-in}
+use Rattle.parts.specs.Mailboxes.{mailbox-row}
 use Rattle.parts.specs.declared.Mailbox.{Mailbox}
 use Rattle.record.specs.declared.State.{State}
 use Rattle.record.specs.Meaning.{no-mailbox-cell, mailbox-at, mailbox-of, keeps-priorities, message-row, cells-of, abs}
-use Rattle.record.specs.Sound.{Sizes, Readable}
+use Rattle.record.specs.Sound.{Readable}
 use Rattle.record.specs.Step.{Becomes}
 use Rattle.record.proofs.Rows.{row-is, row-cases}
 use Rattle.record.proofs.Standing.{messages-are, in-mailbox}
-use Rattle.record.proofs.Keys.{kept-priorities-are}
 use Rattle.record.proofs.Laws.{with-mailbox, changed-row}
 use Rattle.record.proofs.Laws as laws
 
@@ -45,12 +39,7 @@ use Rattle.record.proofs.Laws as laws
 
 -- A row of a number whose cells say the same is the same.
 same-row : (s r : State) (k : Key) → (T (valid k) → cells-of r k ≡ cells-of s k) → abs r .rows k ≡ abs s .rows k
-unfolding abs
-same-row s r k = kept (valid k) (nothing k)
-  where
-    kept : {X : Type 0} {x y : X} (b : Bool) (d : X) → (T b → x ≡ y) → cond b x d ≡ cond b y d
-    kept true d e = e tt
-    kept false d e = refl
+same-row s r k e = row-cases s k (λ x. abs r .rows k ≡ x) (λ v. row-is r k v ∙ e v) (λ n. row-cases r k (λ x. x ≡ nothing k) (λ v. absurd (T-not (valid k) n v)) (λ m. refl))
 
 -- A record whose cells differ from another's at two valid numbers means the other's rows with those two changed.
 two-rows : (s r : State) (k j : Key) (v : Row k) (w : Row j) → T (valid k) → T (valid j) → cells-of r k ≡ v → cells-of r j ≡ w
@@ -76,7 +65,7 @@ module _ {s : State} (R : Readable s) (b : ℕ) (ok : T (valid (mailbox b))) whe
   has-messages = let r = from-within 1 mailbox-limit b ok in record { sound = R .messages; low = r .0; high = r .1 }
 
   module _ (link key l : List ℕ) (d : Changed message-limit message-chains b (s .messages .link) link l) (size : length key ≡ key-cells) where
-    abbrev pub changed : State
+    abbrev changed : State
     changed = laws.with-messages (record { link = link; key = key }) s
 
     own : messages-in link b ≡ l

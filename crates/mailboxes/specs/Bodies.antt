@@ -12,30 +12,30 @@ use Rattle.record.specs.Meaning.{abs}
 use Rattle.record.specs.Sound.{Sound}
 
 -- A mailbox's row.
-abbrev pub mailbox-of : State → ℕ → MailboxRow
-mailbox-of s b = abs s .rows (mailbox b)
+abbrev pub mailbox-in : State → ℕ → MailboxRow
+mailbox-in s b = abs s .rows (mailbox b)
 
 -- A sound record, and a mailbox that is defined.
 pub record OnMailbox (s : State) (b : ℕ) : Type 0 where
   pub sound : Sound s
-  pub defined : T (mailbox-of s b .defined)
+  pub defined : T (mailbox-in s b .defined)
 
 -- A task waits at it.
 pub record Deliverable (s : State) (b : ℕ) : Type 0 where
   pub on : OnMailbox s b
-  pub someone : T (not (empty (mailbox-of s b .waiters)))
+  pub someone : T (not (empty (mailbox-in s b .waiters)))
 
 -- The message is free. By priority, its priority is in range.
 pub record Queueable (s : State) (b g priority : ℕ) : Type 0 where
   pub on : OnMailbox s b
   pub valid-message : T (valid (message g))
   pub is-free : T (eqb (abs s .rows (message g) .queued-in) 0)
-  pub in-range : T (messages-by-priority (mailbox-of s b .attribute)) → priority ≤ priority-limit
+  pub in-range : T (messages-by-priority (mailbox-in s b .attribute)) → priority ≤ priority-limit
 
 -- A message is queued in it.
 pub record Takeable (s : State) (b : ℕ) : Type 0 where
   pub on : OnMailbox s b
-  pub something : T (not (empty (mailbox-of s b .messages)))
+  pub something : T (not (empty (mailbox-in s b .messages)))
 
 -- The task is able to wait at it.
 pub record Waitable (s : State) (b me : ℕ) : Type 0 where

@@ -8,7 +8,7 @@ ghost use Rattle.model.specs.Rows.{task, waiters-by-priority, messages-by-prior
 ghost use Rattle.model.specs.Mailboxes.{deliver-message, queue-message, take-message, wait-for-message, receive-message, cre-mbx, del-mbx, snd-mbx, rcv-mbx, prcv-mbx, trcv-mbx, ref-mbx};
 ghost use Rattle.record.specs.Meaning.{abs};
 ghost use Rattle.record.specs.Step.{Does, Accepted, Performs};
-ghost use Rattle.mailboxes.specs.Bodies.{mailbox-of, Deliverable, Queueable, Takeable, Waitable};
+ghost use Rattle.mailboxes.specs.Bodies.{mailbox-in, Deliverable, Queueable, Takeable, Waitable};
 use model::Call;
 use model::Code;
 use model::End;
@@ -55,7 +55,7 @@ fn kept(ranked: bool, priority: u32) -> u8
 // The head waiter gets the message.
 fn deliver_message(state: State, b: u8, g: u32) -> Step
     requires { ⌜ Deliverable state b ⌝ }
-    ensures { λ r. ⌜ Does (deliver-message b (mailbox-of state b) g) state r ⌝ }
+    ensures { λ r. ⌜ Does (deliver-message b (mailbox-in state b) g) state r ⌝ }
 {
     let state = waits::release(state, WAITERS + b as usize, g);
     let answer = record::finished(Code::Ok, 0, 0, 0);
@@ -65,7 +65,7 @@ fn deliver_message(state: State, b: u8, g: u32) -> Step
 // The message is queued. The answer has its place.
 fn queue_message(mut state: State, b: u8, g: u8, priority: u32) -> Step
     requires { ⌜ Queueable state b g priority ⌝ }
-    ensures { λ r. ⌜ Does (queue-message b (mailbox-of state b) g priority) state r ⌝ }
+    ensures { λ r. ⌜ Does (queue-message b (mailbox-in state b) g priority) state r ⌝ }
 {
     let i = b as usize;
     let n = g as usize;
@@ -94,7 +94,7 @@ fn queue_message(mut state: State, b: u8, g: u8, priority: u32) -> Step
 // The head message is received.
 fn take_message(mut state: State, b: u8) -> Step
     requires { ⌜ Takeable state b ⌝ }
-    ensures { λ r. ⌜ Does (take-message b (mailbox-of state b)) state r ⌝ }
+    ensures { λ r. ⌜ Does (take-message b (mailbox-in state b)) state r ⌝ }
 {
     let mut messages = state.messages;
     let g = chain::pop(&mut messages.link, MESSAGES, MESSAGE_CHAINS, b as usize);
@@ -106,7 +106,7 @@ fn take_message(mut state: State, b: u8) -> Step
 // The task joins the waiters.
 fn wait_for_message(state: State, b: u8, me: u8, end: End) -> Step
     requires { ⌜ Waitable state b me ⌝ }
-    ensures { λ r. ⌜ Does (wait-for-message b (mailbox-of state b) me (abs state .rows (task me)) end) state r ⌝ }
+    ensures { λ r. ⌜ Does (wait-for-message b (mailbox-in state b) me (abs state .rows (task me)) end) state r ⌝ }
 {
     let i = b as usize;
     let mailbox = state.mailboxes[i];
@@ -118,7 +118,7 @@ fn wait_for_message(state: State, b: u8, me: u8, end: End) -> Step
 // The head message is received. With none queued, the task waits until this end.
 fn receive_until(state: State, b: u8, me: u8, end: End) -> Step
     requires { ⌜ Waitable state b me ⌝ }
-    ensures { λ r. ⌜ Does (receive-message b (mailbox-of state b) (wait-for-message b (mailbox-of state b) me (abs state .rows (task me)) end)) state r ⌝ }
+    ensures { λ r. ⌜ Does (receive-message b (mailbox-in state b) (wait-for-message b (mailbox-in state b) me (abs state .rows (task me)) end)) state r ⌝ }
 {
     let head = chain::first(&state.messages.link, MESSAGES, MESSAGE_CHAINS, b as usize);
     if head != 0 {
@@ -173,7 +173,12 @@ impl Mailboxes {
     {
         let state = self.state;
         let b = call.object;
-        let waiter = chain::first(&state.waiting.link, TASKS, TASK_CHAINS, WAITERS + b as usize);
+        let waiter = chain::first(
+            &state.waiting.link,
+            TASKS,
+            TASK_CHAINS,
+            WAITERS + b as usize,
+        );
         if waiter != 0 {
             return deliver_message(state, b, call.value);
         }

@@ -1,5 +1,6 @@
-use Rattle.mailboxes.proofs.Bodies.{releasable, delivered}
+-- `deliver_message` does what its program does: the release of the head waiter is the program's two puts.
 use borrow.Author.Needs.{needs}
+use Rattle.mailboxes.proofs.Bodies.{releasable, delivered}
 use Rattle.mailboxes.proofs.deliver_message.Statement.{statement}
 use Rattle.mailboxes.proofs.deliver_message.Tie as tie
 

@@ -1,3 +1,4 @@
+-- `kept` is the number itself where it is kept: there it is at most 16.
 use native.Mathlib.Omega.{arith}
 use borrow.Author.Needs.{needs}
 use Rattle.mailboxes.proofs.kept.Statement.{statement}

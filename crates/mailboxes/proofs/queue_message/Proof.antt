@@ -1,6 +1,7 @@
+-- `queue_message` does what its program does: the chain's insert is the program's two puts, and the message's key its priority.
 use native.Mathlib.Omega.{arith}
-use Rattle.mailboxes.proofs.Bodies.{number-range, message-range, rank-fits, queue-insertable, queue-place-fits, queued}
 use borrow.Author.Needs.{needs}
+use Rattle.mailboxes.proofs.Bodies.{number-range, message-range, rank-fits, queue-insertable, queue-place-fits, queued}
 use Rattle.mailboxes.proofs.queue_message.Statement.{statement}
 use Rattle.mailboxes.proofs.queue_message.Tie as tie
 
@@ -26,13 +27,21 @@ insert-requires : tie.Need-insert-requires
 insert-requires c κs = queue-insertable (c .before .before .before .before .before .before .before .before .pre) _
 
 cast-finished : tie.Need-cast-finished
-cast-finished c = let h = queue-place-fits (c .before .before .before .before .before .before .before .before .before .pre) (c .before .before .before .before .before .before .before .ranks-messages .ensures) (c .before .before .before .before .before .before .kept .ensures) (c .before .before .before .before .before .limit .ensures) (c .insert .ensures) in omega arith
+cast-finished c =
+    let limited = c .before .before .before .before .before in
+    let ranked = limited .before .before in
+    let h = queue-place-fits (ranked .before .before .pre) (ranked .ranks-messages .ensures) (limited .before .kept .ensures) (limited .limit .ensures) (c .insert .ensures) in
+    omega arith
 
 finished-requires : tie.Need-finished-requires
 finished-requires c κs = search needs
 
 returns : tie.Need-returns
-returns c = rw (c .finished .ensures) (queued (c .before .before .before .before .before .before .before .before .before .before .pre) (c .before .before .before .before .before .before .before .before .ranks-messages .ensures) (c .before .before .before .before .before .before .before .kept .ensures) (c .before .before .before .before .before .before .limit .ensures) (c .before .insert .ensures))
+returns c =
+    let limited = c .before .before .before .before .before .before in
+    let ranked = limited .before .before in
+    rw (c .finished .ensures)
+    (queued (ranked .before .before .pre) (ranked .ranks-messages .ensures) (limited .before .kept .ensures) (limited .limit .ensures) (c .before .insert .ensures))
 
 pub queue-message-spec : {M : Type 1} → statement M
 queue-message-spec =

@@ -1,3 +1,4 @@
+-- `ranks_messages` tests for the two attributes that the definition lists.
 use Rattle.mailboxes.proofs.Bodies.{either}
 use Rattle.mailboxes.proofs.ranks_messages.Statement.{statement}
 use Rattle.mailboxes.proofs.ranks_messages.Tie as tie

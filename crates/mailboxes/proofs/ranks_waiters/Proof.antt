@@ -1,3 +1,4 @@
+-- `ranks_waiters` tests for the two attributes that the definition lists.
 use Rattle.mailboxes.proofs.Bodies.{either}
 use Rattle.mailboxes.proofs.ranks_waiters.Statement.{statement}
 use Rattle.mailboxes.proofs.ranks_waiters.Tie as tie

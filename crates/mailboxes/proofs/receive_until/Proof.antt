@@ -1,5 +1,6 @@
-use Rattle.mailboxes.proofs.Bodies.{on-messages, head-takeable, received-head, received-none}
+-- `receive_until` takes the head message or waits, as its program does: the first number of a chain is 0 where the chain is empty.
 use borrow.Author.Needs.{needs}
+use Rattle.mailboxes.proofs.Bodies.{on-messages, head-takeable, received-head, received-none}
 use Rattle.mailboxes.proofs.receive_until.Statement.{statement}
 use Rattle.mailboxes.proofs.receive_until.Tie as tie
 

@@ -1,5 +1,6 @@
-use Rattle.mailboxes.proofs.Bodies.{on-messages, taken}
+-- `take_message` does what its program does: the chain's pop is the program's two puts.
 use borrow.Author.Needs.{needs}
+use Rattle.mailboxes.proofs.Bodies.{on-messages, taken}
 use Rattle.mailboxes.proofs.take_message.Statement.{statement}
 use Rattle.mailboxes.proofs.take_message.Tie as tie
 

@@ -1,6 +1,7 @@
+-- `wait_for_message` does what its program does: the start of the wait is the program's two puts.
 use native.Mathlib.Omega.{arith}
-use Rattle.mailboxes.proofs.Bodies.{number-range, joinable, waiting}
 use borrow.Author.Needs.{needs}
+use Rattle.mailboxes.proofs.Bodies.{number-range, joinable, waiting}
 use Rattle.mailboxes.proofs.wait_for_message.Statement.{statement}
 use Rattle.mailboxes.proofs.wait_for_message.Tie as tie
 

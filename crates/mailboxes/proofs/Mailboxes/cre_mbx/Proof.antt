@@ -1,6 +1,7 @@
+-- Call 12 puts one row: the mailbox's new cell, where nobody waits and no message is queued.
 use native.Mathlib.Omega.{arith}
-use Rattle.mailboxes.proofs.Calls.{create-range, attribute-range, highest-fits, created}
 use borrow.Author.Needs.{needs}
+use Rattle.mailboxes.proofs.Calls.{create-range, attribute-range, highest-fits, created}
 use Rattle.mailboxes.proofs.Mailboxes.cre_mbx.Statement.{statement}
 use Rattle.mailboxes.proofs.Mailboxes.cre_mbx.Tie as tie
 

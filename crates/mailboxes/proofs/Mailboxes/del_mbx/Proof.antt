@@ -1,7 +1,8 @@
+-- Call 13 ends the waits, frees the messages and puts the undefined row: the three promises, one after the other.
 use native.Mathlib.Omega.{arith}
+use borrow.Author.Needs.{needs}
 use Rattle.mailboxes.proofs.Bodies.{number-range}
 use Rattle.mailboxes.proofs.Calls.{on-deleted, waiters-clearable, messages-left, deleted}
-use borrow.Author.Needs.{needs}
 use Rattle.mailboxes.proofs.Mailboxes.del_mbx.Statement.{statement}
 use Rattle.mailboxes.proofs.Mailboxes.del_mbx.Tie as tie
 

@@ -1,3 +1,4 @@
+-- Call 16 takes the head message: step 7 of the error table has left a message to take.
 use Rattle.mailboxes.proofs.Calls.{poll-takeable, polled}
 use Rattle.mailboxes.proofs.Mailboxes.prcv_mbx.Statement.{statement}
 use Rattle.mailboxes.proofs.Mailboxes.prcv_mbx.Tie as tie

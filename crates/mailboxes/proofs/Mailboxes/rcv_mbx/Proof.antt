@@ -1,3 +1,4 @@
+-- Call 15 is a receive with no end: the rows in view are the record's own.
 use mathlib.Core.Path.{refl}
 use Rattle.lists.specs.Lists.{one-of}
 use Rattle.mailboxes.proofs.Calls.{caller-waitable, received}

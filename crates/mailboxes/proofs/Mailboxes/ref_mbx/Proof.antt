@@ -1,7 +1,8 @@
+-- Call 18 shows the two heads: the first numbers of the mailbox's two chains.
+use borrow.Author.Needs.{needs}
 use Rattle.waits.proofs.Laws.{has-chain}
 use Rattle.mailboxes.proofs.Bodies.{on-waiters, on-messages}
 use Rattle.mailboxes.proofs.Calls.{on-shown, heads-shown}
-use borrow.Author.Needs.{needs}
 use Rattle.mailboxes.proofs.Mailboxes.ref_mbx.Statement.{statement}
 use Rattle.mailboxes.proofs.Mailboxes.ref_mbx.Tie as tie
 

@@ -1,8 +1,9 @@
+-- Call 14 delivers or queues the message, as its program does: the first number of a chain is 0 where the chain is empty.
 use native.Mathlib.Omega.{arith}
+use borrow.Author.Needs.{needs}
 use Rattle.waits.proofs.Laws.{has-chain}
 use Rattle.mailboxes.proofs.Bodies.{on-waiters}
 use Rattle.mailboxes.proofs.Calls.{on-sent, message-deliverable, sent-delivered, message-fits, message-queueable, sent-queued}
-use borrow.Author.Needs.{needs}
 use Rattle.mailboxes.proofs.Mailboxes.snd_mbx.Statement.{statement}
 use Rattle.mailboxes.proofs.Mailboxes.snd_mbx.Tie as tie
 

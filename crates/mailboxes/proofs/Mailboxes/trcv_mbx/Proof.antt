@@ -1,9 +1,10 @@
+-- Call 17 is a receive with an end: the tmout fits its 32 bits, so the end is the definition's.
 use mir.Syntax.{w32}
 use mir.Facts.{toZ-ofZ}
+use borrow.Author.Needs.{needs}
 use Rattle.lists.specs.Lists.{one-of}
 use Rattle.record.specs.Meaning.{abs}
 use Rattle.mailboxes.proofs.Calls.{caller-waitable, received}
-use borrow.Author.Needs.{needs}
 use Rattle.mailboxes.proofs.Mailboxes.trcv_mbx.Statement.{statement}
 use Rattle.mailboxes.proofs.Mailboxes.trcv_mbx.Tie as tie
 
