@@ -19,7 +19,7 @@ use record::State;
 use record::Step;
 
 // The largest key that a newcomer of this priority goes behind: its own by priority, every key by arrival.
-fn limit(ranked: bool, priority: u8) -> u8
+pub fn limit(ranked: bool, priority: u8) -> u8
     ensures { λ r. ⌜ r ≡ cond ranked priority 255 ⌝ }
 {
     if ranked {

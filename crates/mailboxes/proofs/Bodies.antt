@@ -1,0 +1,233 @@
+-- What the bodies ask and leave: the promises of the chains and of the waits, followed along each program.
+use mathlib.Core.Path.{_≡_, refl, sym, ap, _∙_, subst}
+use mathlib.Core.Bool.{Bool, true, false, not, cond, _||_}
+use mathlib.Core.List.{List, [], _∷_, map, headD, List·Memᴰ as In}
+use mathlib.Core.Logic.{_≢_}
+use Prim.Native.Nat.{ℕ, _+_, _<_, _≤_}
+use native.Mathlib.Omega.{arith}
+use lib.Dec.{T, eqb}
+use lib.ListN.{length, getD, set, length-set, length-map}
+use Rattle.lists.specs.Lists.{empty, one-of}
+use Rattle.lists.proofs.Stands.{in-head}
+use Rattle.lists.proofs.Tests.{is-eqb, passed-test}
+use Rattle.rows.specs.Program.{update, run}
+use Rattle.rows.proofs.Run.{run-yes, run-no}
+use Rattle.chain.specs.Table.{lists, chain-of, keys-of}
+use Rattle.chain.specs.Changes.{HasChain, Insertable, Inserted, Popped}
+use Rattle.chain.proofs.Laws.{list-range, inserted-place, keys-of-free}
+use Rattle.model.specs.Sizes.{mailbox-limit, message-limit, priority-limit}
+use Rattle.model.specs.Rows.{task, mailbox, message, same-key, valid, MailboxRow, MessageRow, Effect, waiters-by-priority, messages-by-priority}
+use Rattle.model.specs.Codes.{finished}
+use Rattle.model.specs.declared.End.{End}
+use Rattle.model.specs.declared.Wait.the-variants.{AtMailbox}
+use Rattle.model.specs.WaitQueues.{place, release}
+use Rattle.model.specs.Mailboxes.{deliver-message, queue-message, take-message, wait-for-message, receive-message}
+use Rattle.model.specs.WellFormed.{waiters-of, set-standing}
+use Rattle.model.specs.declared.Code.the-variants.{Ok as E-OK}
+use Rattle.model.proofs.Choices.{cond-yes}
+use Rattle.model.proofs.Tests.{from-within, to-within}
+use Rattle.model.proofs.WaitMoves.{defined-mailbox}
+use Rattle.model.proofs.After.{After, after-return, after-get, after-put, after-get-each}
+use Rattle.parts.specs.Chains.{message-chains, messages-in}
+use Rattle.parts.proofs.Empty.{chain-zero}
+use Rattle.record.specs.declared.State.{State}
+use Rattle.record.specs.declared.Step.{Step}
+use Rattle.record.specs.Meaning.{mailbox-at, keeps-priorities, abs}
+use Rattle.record.specs.Meaning as meaning
+use Rattle.record.specs.Step.{Becomes, Does}
+use Rattle.record.proofs.Rows.{row-is}
+use Rattle.record.proofs.Standing.{messages-are}
+use Rattle.record.proofs.Keys.{kept-priorities-are}
+use Rattle.record.proofs.Laws as laws
+use Rattle.waits.specs.Waiting.{chain-list, ChainOf, OnChain, Releasable, Released, Joinable, Joined}
+use Rattle.waits.proofs.Laws.{rows-of, standing-chain}
+use Rattle.mailboxes.specs.Bodies.{mailbox-in, OnMailbox, Deliverable, Queueable, Takeable, Waitable}
+use Rattle.mailboxes.proofs.Laws.{has-messages, message-inserted, message-popped}
+
+-- ── Steps ──
+
+-- A step does what a program leaves and returns.
+pub does : {p : Effect} {s : State} {r : Step} → After (λ n a. Becomes s n (r .state) × (r .answer ≡ a)) p (abs s .rows) → Does p s r
+does h = record { becomes = h .holds .0; answer-is = h .holds .1 }
+
+-- A step that does what is left of a program on the record so far does the program.
+pub does-rest : {p q : Effect} {s u : State} {r : Step} → run same-key p (abs s .rows) ≡ run same-key q (abs u .rows) → u .counter ≡ s .counter → Does q u r → Does p s r
+does-rest e f d = record {
+  becomes = rw e (record { rows-are = d .becomes .rows-are; counter-is = d .becomes .counter-is ∙ f; readable = d .becomes .readable });
+  answer-is = d .answer-is ∙ sym (ap (λ o. o .answer) e);
+}
+
+-- A list whose first number isn't 0 has a head.
+pub has-head : {n : ℕ} (l : List ℕ) → n ≡ headD l 0 → n ≢ 0 → T (not (empty l))
+unfolding empty headD
+has-head [] e f = absurd (f e)
+has-head (x ∷ l) e f = tt
+
+pub nobody : {l : List ℕ} → l ≡ [] → T (not (not (empty l)))
+unfolding empty
+nobody e = rw e tt
+
+-- The code's test of two attributes is the definition's.
+pub either : (n x y : ℕ) → (eqb n x || eqb n y) ≡ one-of n (x ∷ y ∷ [])
+unfolding one-of
+either n x y = ap (λ b. eqb n x || b) (sym (or-false (eqb n y)))
+  where
+    or-false : (b : Bool) → (b || false) ≡ b
+    or-false true = refl
+    or-false false = refl
+
+-- What is kept under a test, kept once more.
+pub kept-twice : (b : Bool) (n : ℕ) → cond b (cond b n 0) 0 ≡ cond b n 0
+kept-twice true n = refl
+kept-twice false n = refl
+
+-- ── A defined mailbox ──
+
+module _ {s : State} {b : ℕ} (a : OnMailbox s b) where
+  pub valid-number : T (valid (mailbox b))
+  valid-number = defined-mailbox (rows-of (a .sound)) b (a .defined)
+
+  pub number-range : (1 ≤ b) × (b ≤ mailbox-limit)
+  number-range = from-within 1 mailbox-limit b valid-number
+
+  cell-defined : T (mailbox-at s b .defined)
+  cell-defined = subst (λ (x : MailboxRow). T (x .defined)) (row-is s (mailbox b) valid-number) (a .defined)
+
+  pub attribute-is : mailbox-in s b .attribute ≡ mailbox-at s b .attribute
+  attribute-is = ap (λ (x : MailboxRow). x .attribute) (row-is s (mailbox b) valid-number) ∙ cond-yes (mailbox-at s b .defined) _ _ cell-defined
+
+  pub on-waiters : OnChain s (32 + b)
+  on-waiters = let r = number-range in record { sound = a .sound; low = omega arith; high = omega arith }
+
+  pub own-chain : ChainOf (waiters-of b) (32 + b)
+  own-chain = record { valid-object = valid-number; chain-is = refl }
+
+  pub waiters-are : mailbox-in s b .waiters ≡ chain-list s (32 + b)
+  waiters-are = standing-chain s (waiters-of b) valid-number
+
+  pub on-messages : HasChain message-limit message-chains b (s .messages .link)
+  on-messages = has-messages (a .sound .readable) b valid-number
+
+  pub queued-are : mailbox-in s b .messages ≡ getD (lists message-limit message-chains (s .messages .link)) b []
+  unfolding messages-in
+  queued-are = messages-are s b valid-number
+
+-- ── A message is delivered ──
+
+module _ {s : State} {b : ℕ} (a : Deliverable s b) where
+  pub releasable : Releasable s (32 + b)
+  releasable = record { on = on-waiters (a .on); someone = rw (waiters-are (a .on)) at (a .someone) }
+
+  pub delivered : {g : ℕ} {r : State} → Released s (32 + b) g r → Does (deliver-message b (mailbox-in s b) g) s (record { state = r; answer = finished E-OK 0 0 0 })
+  unfolding deliver-message release set-standing same-key update
+  delivered p = does (after-put (after-get (after-put (after-return (p .becomes (waiters-of b) (own-chain (a .on)), refl)))))
+
+-- ── A task waits for a message ──
+
+module _ {s : State} {b me : ℕ} (a : Waitable s b me) where
+  pub joinable : Joinable s (32 + b) me
+  joinable = record { on = on-waiters (a .on); defined = a .defined; able = a .able }
+
+  pub waiting : {ranked : Bool} {end : End} {r : Step} → ranked ≡ waiters-by-priority (mailbox-at s b .attribute) → Joined s (32 + b) me ranked (AtMailbox b end) r
+      → Does (wait-for-message b (mailbox-in s b) me (abs s .rows (task me)) end) s r
+  unfolding wait-for-message set-standing
+  waiting e p =
+      let by : _ ≡ waiters-by-priority (mailbox-in s b .attribute) = e ∙ ap waiters-by-priority (sym (attribute-is (a .on))) in
+      does (after-get-each task _ _ _ (after-put (after-put (after-return
+      (rw by at (p .becomes (waiters-of b) (own-chain (a .on))), rw by at (p .answer-is (waiters-of b) (own-chain (a .on))))))))
+
+-- ── The head message is taken ──
+
+module _ {s : State} {b : ℕ} (a : Takeable s b) where
+  module _ {g : ℕ} {link : List ℕ} (p : Popped message-limit message-chains b (s .messages .link) link g) where
+    head-is : headD (mailbox-in s b .messages) 0 ≡ g
+    head-is = ap (λ (l : List ℕ). headD l 0) (queued-are (a .on)) ∙ sym (p .first-is)
+
+    head-valid : T (valid (message g))
+    head-valid =
+        let i : In g (getD (lists message-limit message-chains (s .messages .link)) b []) = rw (p .first-is) (in-head _ (rw (queued-are (a .on)) at (a .something))) in
+        let r = list-range (on-messages (a .on)) i in
+        to-within 1 message-limit g (r .0) (r .1)
+
+    pub taken : Does (take-message b (mailbox-in s b)) s (record { state = laws.with-messages (record { link = link; key = s .messages .key }) s; answer = finished E-OK g 0 0 })
+    unfolding take-message messages-in
+    taken = does (after-put (after-put (after-return
+        (rw (head-is, queued-are (a .on)) (message-popped (a .on .sound .readable) b (valid-number (a .on)) p head-valid), ap (λ n. finished E-OK n 0 0) (sym head-is)))))
+
+-- ── A message is queued ──
+
+module _ {s : State} {b g priority : ℕ} (a : Queueable s b g priority) where
+  pub message-range : (1 ≤ g) × (g ≤ message-limit)
+  message-range = from-within 1 message-limit g (a .valid-message)
+
+  message-nowhere : chain-of g (lists message-limit message-chains (s .messages .link)) ≡ 0
+  unfolding meaning.mailbox-of
+  message-nowhere = sym (ap (λ (x : MessageRow). x .queued-in) (row-is s (message g) (a .valid-message))) ∙ passed-test (is-eqb _ 0) (a .is-free)
+
+  pub queue-insertable : (rank : ℕ) → Insertable message-limit message-chains b g (s .messages .link) (set (s .messages .key) g rank)
+  queue-insertable rank = record {
+    has = on-messages (a .on);
+    positive = message-range .0;
+    in-table = message-range .1;
+    free = message-nowhere;
+    keys-count = length-set (s .messages .key) g rank ∙ a .on .sound .readable .sizes .message-keys;
+  }
+
+  abbrev by-priority : Bool
+  by-priority = messages-by-priority (mailbox-in s b .attribute)
+
+  module _ {ranked : Bool} (ranked-is : ranked ≡ messages-by-priority (mailbox-at s b .attribute)) where
+    pub ranked-by : ranked ≡ by-priority
+    ranked-by = ranked-is ∙ ap messages-by-priority (sym (attribute-is (a .on)))
+
+    pub rank-fits : T ranked → priority ≤ priority-limit
+    rank-fits t = a .in-range (rw ranked-by at t)
+
+    module _ {rank limit n : ℕ} {link : List ℕ} (rank-is : rank ≡ cond ranked priority 0) (limit-is : limit ≡ cond ranked rank 255)
+        (p : Inserted message-limit message-chains b g limit (s .messages .link) (set (s .messages .key) g rank) link n) where
+      pub queue-place-fits : n < message-limit
+      queue-place-fits = inserted-place p (on-messages (a .on))
+
+      abbrev keys : List ℕ
+      keys = map (λ j. abs s .rows (message j) .priority) (mailbox-in s b .messages)
+
+      place-is : n ≡ place by-priority priority keys
+      unfolding place messages-in
+      place-is = go by-priority (rank-is ∙ rw ranked-by refl) (limit-is ∙ rw ranked-by refl) (λ t. kept t)
+        where
+          l : List ℕ
+          l = getD (lists message-limit message-chains (s .messages .link)) b []
+
+          kept : T by-priority → keys ≡ keys-of (s .messages .key) l
+          kept t = kept-priorities-are s (a .on .sound .readable .messages) b (valid-number (a .on))
+              (subst (λ (x : MailboxRow). T (messages-by-priority (x .attribute))) (row-is s (mailbox b) (valid-number (a .on))) t)
+
+          go : (x : Bool) → rank ≡ cond x priority 0 → limit ≡ cond x rank 255 → (T x → keys ≡ keys-of (s .messages .key) l) → n ≡ place x priority keys
+          go true e f h = p .place-is ∙ rw (keys-of-free (a .on .sound .readable .messages) (s .messages .key) g rank message-nowhere b, f, e, h tt) refl
+          go false e f h = p .at-the-end f ∙ (sym (ap length (queued-are (a .on))) ∙ simp length-map)
+
+      -- The rank is kept where the mailbox goes by priority, and is then the priority.
+      rank-kept : cond (keeps-priorities (s .mailboxes) b) rank 0 ≡ cond by-priority priority 0
+      rank-kept =
+          ap (λ x. cond x rank 0) (cond-yes (valid (mailbox b)) _ false (valid-number (a .on)) ∙ sym (ap (λ (x : MailboxRow). messages-by-priority (x .attribute)) (row-is s (mailbox b) (valid-number (a .on)))))
+          ∙ (ap (λ x. cond by-priority x 0) (rank-is ∙ rw ranked-by refl) ∙ kept-twice by-priority priority)
+
+      pub queued : Does (queue-message b (mailbox-in s b) g priority) s (record { state = laws.with-messages (record { link = link; key = set (s .messages .key) g rank }) s; answer = finished E-OK n 0 0 })
+      unfolding queue-message messages-in
+      queued = does (after-get-each message _ _ _ (after-put (after-put (after-return
+          (rw (← place-is, ← rank-kept, queued-are (a .on)) (message-inserted (a .on .sound .readable) b (valid-number (a .on)) rank (queue-insertable rank) p), ap (λ n. finished E-OK n 0 0) place-is)))))
+
+-- ── A receive ──
+
+module _ {s : State} {b : ℕ} (a : OnMailbox s b) {head : ℕ} (head-is : head ≡ headD (getD (lists message-limit message-chains (s .messages .link)) b []) 0) where
+  pub head-takeable : head ≢ 0 → Takeable s b
+  head-takeable some = record { on = a; something = rw (queued-are a) (has-head _ head-is some) }
+
+  module _ (otherwise : Effect) {r : Step} where
+    pub received-head : head ≢ 0 → Does (take-message b (mailbox-in s b)) s r → Does (receive-message b (mailbox-in s b) otherwise) s r
+    unfolding receive-message
+    received-head some d = does-rest (run-yes same-key _ _ _ _ (head-takeable some .something)) refl d
+
+    pub received-none : head ≡ 0 → Does otherwise s r → Does (receive-message b (mailbox-in s b) otherwise) s r
+    unfolding receive-message
+    received-none none d = does-rest (run-no same-key _ _ _ _ (nobody (queued-are a ∙ chain-zero (on-messages a) head-is .then-empty none))) refl d

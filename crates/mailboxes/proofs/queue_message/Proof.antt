@@ -1,0 +1,59 @@
+-- `queue_message` does what its program does: the chain's insert is the program's two puts, and the message's key its priority.
+use native.Mathlib.Omega.{arith}
+use borrow.Author.Needs.{needs}
+use Rattle.mailboxes.proofs.Bodies.{number-range, message-range, rank-fits, queue-insertable, queue-place-fits, queued}
+use Rattle.mailboxes.proofs.queue_message.Statement.{statement}
+use Rattle.mailboxes.proofs.queue_message.Tie as tie
+
+mul-mailbox : tie.Need-mul-mailbox
+mul-mailbox c = search needs
+
+element-copy-out-mailbox : tie.Need-element-copy-out-mailbox
+element-copy-out-mailbox c = let h = number-range (c .pre .on) in omega arith
+
+ranks-messages-requires : tie.Need-ranks-messages-requires
+ranks-messages-requires c κs = search needs
+
+kept-requires : tie.Need-kept-requires
+kept-requires c κs = rank-fits (c .before .before .pre) (c .ranks-messages .ensures)
+
+limit-requires : tie.Need-limit-requires
+limit-requires c κs = search needs
+
+array-write-key : tie.Need-array-write-key
+array-write-key c = let h = message-range (c .before .before .before .before .before .before .pre) in omega arith
+
+insert-requires : tie.Need-insert-requires
+insert-requires c κs = queue-insertable (c .before .before .before .before .before .before .before .before .pre) _
+
+cast-finished : tie.Need-cast-finished
+cast-finished c =
+    let limited = c .before .before .before .before .before in
+    let ranked = limited .before .before in
+    let h = queue-place-fits (ranked .before .before .pre) (ranked .ranks-messages .ensures) (limited .before .kept .ensures) (limited .limit .ensures) (c .insert .ensures) in
+    omega arith
+
+finished-requires : tie.Need-finished-requires
+finished-requires c κs = search needs
+
+returns : tie.Need-returns
+returns c =
+    let limited = c .before .before .before .before .before .before in
+    let ranked = limited .before .before in
+    rw (c .finished .ensures)
+    (queued (ranked .before .before .pre) (ranked .ranks-messages .ensures) (limited .before .kept .ensures) (limited .limit .ensures) (c .before .insert .ensures))
+
+pub queue-message-spec : {M : Type 1} → statement M
+queue-message-spec =
+    tie.close
+    (tie.spec
+    mul-mailbox
+    element-copy-out-mailbox
+    ranks-messages-requires
+    kept-requires
+    limit-requires
+    array-write-key
+    insert-requires
+    cast-finished
+    finished-requires
+    returns)
