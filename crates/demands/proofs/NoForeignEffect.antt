@@ -1,0 +1,121 @@
+-- A carrier's call leaves other rows alone: what it may change is closed, in that its rows name nothing outside, and a call stays within a closed set that has the rows it names.
+use mathlib.Core.Path.{_≡_, refl, sym, _∙_, ap, subst}
+use mathlib.Core.Bool.{Bool, true, false, not, _&&_, _||_}
+use Prim.Native.Nat.{ℕ}
+use lib.Dec.{T, T-not, not-T, eqb}
+use mir.Facts.{and-yes, yes-and}
+use Rattle.lists.proofs.Each.{each-map}
+use Rattle.rows.specs.Program as Program
+use Rattle.rows.specs.Program.{step-of}
+use Rattle.rows.proofs.Footprint.{Closed, outside}
+use Rattle.model.specs.Rows.{Key, task, suspension, queue, mailbox, message, same-key, Row, MessageRow, Model}
+use Rattle.model.specs.Step.{program, step}
+use Rattle.model.specs.Isolation.{WaitsAt, QueuedAt, Linked, WaitsIn, QueuedIn, Placed, CallOf, Carrier, owns, Own, Disjoint}
+use Rattle.model.specs.declared.Call.{Call}
+use Rattle.model.specs.declared.Wait.{Wait}
+use Rattle.model.specs.declared.Wait.the-variants.{NoWait, Sending, Receiving, AtMailbox}
+use Rattle.model.proofs.Tests.{or-left}
+use Rattle.model.proofs.Step.{step-call}
+use Rattle.model.proofs.Footprints.{NamedIn, in-program}
+use Rattle.model.proofs.WellFormed.{well-formed-linked}
+use Rattle.record.specs.declared.State.{State}
+use Rattle.record.specs.Meaning.{abs}
+use Rattle.demands.specs.NoForeignEffect.{waits-at-object, may-change, NoForeignEffect}
+use Rattle.demands.proofs.Runs.{follows}
+
+or-right : (a b : Bool) → T b → T (a || b)
+or-right true b t = tt
+or-right false b t = t
+
+or-cases : {P : Type 0} (a b : Bool) → (T a → P) → (T b → P) → T (a || b) → P
+or-cases true b p q t = p tt
+or-cases false b p q t = q t
+
+-- ── What may change is closed ──
+
+module _ (a : Carrier) (m : Program.Rows Row) where
+  abbrev MayChange : Key → Type 0
+  MayChange k = T (may-change a m k)
+
+  own-may-change : (k : Key) → Own a k → MayChange k
+  own-may-change (task n) t = or-left (a .tasks n) _ t
+  own-may-change (suspension n) t = t
+  own-may-change (queue n) t = t
+  own-may-change (mailbox n) t = t
+  own-may-change (message n) t = or-left (a .messages n) _ t
+
+  object-of-wait : (own : Bool) (w : Wait) → (T own → WaitsIn (Own a) w) → T (own || waits-at-object a w) → WaitsIn MayChange w
+  object-of-wait own NoWait p t = tt
+  object-of-wait own (Sending q end word) p t = or-cases own (a .queues q) p (λ u. u) t
+  object-of-wait own (Receiving q end) p t = or-cases own (a .queues q) p (λ u. u) t
+  object-of-wait own (AtMailbox b end) p t = or-cases own (a .mailboxes b) p (λ u. u) t
+
+  waits-at-own : (k : Key) (w : Wait) → Own a k → WaitsAt k w → T (waits-at-object a w)
+  waits-at-own k NoWait o e = absurd e
+  waits-at-own k (Sending q end word) o e = subst (Own a) (sym e) o
+  waits-at-own k (Receiving q end) o e = subst (Own a) (sym e) o
+  waits-at-own k (AtMailbox b end) o e = subst (Own a) (sym e) o
+
+  standing : (k : Key) → Own a k → (t : ℕ) → WaitsAt k (m (task t) .wait) → MayChange (task t)
+  standing k o t e = or-right (a .tasks t) _ (waits-at-own k (m (task t) .wait) o e)
+
+  queued : (b : ℕ) → Own a (mailbox b) → (g : ℕ) → QueuedAt b (m (message g)) → MayChange (message g)
+  queued b o g e = or-right (a .messages g) _
+      (subst (λ n. T (not (eqb n 0) && a .mailboxes n)) (sym (e .queued-here)) (yes-and (not (eqb b 0)) (a .mailboxes b) (e .a-mailbox) o))
+
+  closed : Linked m → Placed (Own a) m → Closed NamedIn MayChange m
+  unfolding QueuedIn
+  closed l p (task n) t = object-of-wait (a .tasks n) (m (task n) .wait) (p .tasks n) t
+  closed l p (suspension n) t = tt
+  closed l p (queue n) t = (each-map (standing (queue n) t) (l .senders n), each-map (standing (queue n) t) (l .receivers n))
+  closed l p (mailbox n) t = (each-map (standing (mailbox n) t) (l .waiters n), each-map (queued n t) (l .messages n))
+  closed l p (message n) t =
+      let b = m (message n) .queued-in in
+      or-cases (a .messages n) (not (eqb b 0) && a .mailboxes b) (p .messages n) (λ u some. and-yes (not (eqb b 0)) (a .mailboxes b) u .1) t
+
+-- ── Another carrier's rows are not among it ──
+
+module _ (a b : Carrier) (apart : Disjoint a b) where
+  other-object : (w : Wait) → WaitsIn (Own b) w → T (waits-at-object a w) → ⊥
+  other-object NoWait h t = t
+  other-object (Sending q end word) h t = apart (queue q) t h
+  other-object (Receiving q end) h t = apart (queue q) t h
+  other-object (AtMailbox x end) h t = apart (mailbox x) t h
+
+  other : (m : Program.Rows Row) → Placed (Own b) m → (k : Key) → Own b k → T (may-change a m k) → ⊥
+  unfolding QueuedIn
+  other m p (task n) o t = or-cases (a .tasks n) _ (λ u. apart (task n) u o) (other-object (m (task n) .wait) (p .tasks n o)) t
+  other m p (suspension n) o t = apart (suspension n) t o
+  other m p (queue n) o t = apart (queue n) t o
+  other m p (mailbox n) o t = apart (mailbox n) t o
+  other m p (message n) o t =
+      let x = m (message n) .queued-in in
+      or-cases (a .messages n) (not (eqb x 0) && a .mailboxes x) (λ u. apart (message n) u o)
+      (λ u. let h = and-yes (not (eqb x 0)) (a .mailboxes x) u in apart (mailbox x) (h .1) (p .messages n o (h .0))) t
+
+-- ── The call ──
+
+module _ (m : Model) (a : Carrier) (c : Call) (own : CallOf (Own a) c) where
+  frame : Linked (m .rows) → Placed (Own a) (m .rows) → (k : Key) → (T (may-change a (m .rows) k) → ⊥) → step m c .state .rows k ≡ m .rows k
+  unfolding step-of
+  frame l p k n =
+      rw (step-call m c (own .no-tick))
+      (outside same-key NamedIn (MayChange a (m .rows)) (λ x. Unit) (program (m .environment) c) (m .rows)
+      (in-program (MayChange a (m .rows)) (m .environment) c (each-map (λ j g t. own-may-change a (m .rows) j (g t)) (own .own-names)))
+      (closed a (m .rows) l p) k n)
+
+  same-counter : step m c .state .environment .counter ≡ m .environment .counter
+  unfolding step-of
+  same-counter = rw (step-call m c (own .no-tick))
+
+pub no-foreign-effect : NoForeignEffect
+unfolding abs
+no-foreign-effect s S a placed c own r h =
+    let f = follows h S in
+    let kept : (k : Key) → (T (may-change a (abs s .rows) k) → ⊥) → abs (r .state) .rows k ≡ abs s .rows k
+    = λ k n. ap (λ (m : Model). m .rows k) (f .meaning-is) ∙ frame (abs s) a c own (well-formed-linked (abs s) (S .well-formed)) placed k n in
+    record {
+      other-rows = λ k n. kept k (T-not (may-change a (abs s .rows) k) n);
+      counter = ap (λ (m : Model). m .environment .counter) (f .meaning-is) ∙ same-counter (abs s) a c own;
+      other-carrier = λ b apart placed-b k o. kept k (other a b apart (abs s .rows) placed-b k o);
+    }
