@@ -2,9 +2,11 @@
 use mathlib.Core.Path.{_≡_, refl, sym, _∙_, ap, subst}
 use mathlib.Core.Bool.{Bool, true, false, not, cond, _||_}
 use mathlib.Core.List.{List, [], _∷_}
+use mathlib.Core.Logic.{_≢_}
 use Prim.Native.Nat.{ℕ, suc, _≤_, _<_, _+_, _%_}
 use native.Mathlib.Omega.{arith}
-use lib.Dec.{T, T-not, not-T, eqb, eqb-refl}
+use native.Mathlib.Decide.{ℕ-discrete}
+use lib.Dec.{T, T-not, not-T, eqb, eqb-refl, eqb→eq}
 use Rattle.lists.specs.Lists.{Each, none, both, ascending}
 use Rattle.rows.specs.Program as Program
 use Rattle.model.specs.Sizes.{call-limit, task-limit, counter-span, within}
@@ -15,10 +17,13 @@ use Rattle.model.specs.Errors.{unknown, caller-cannot-call, ErrorRow, error-tab
 use Rattle.model.specs.WaitQueues.{take-out, end-wait}
 use Rattle.model.specs.Tasks.{expire, tick}
 use Rattle.model.specs.Step.{step}
+use Rattle.model.specs.Refusals.{NoError}
 use Rattle.model.specs.declared.Answer.{Answer}
 use Rattle.model.specs.declared.Call.{Call}
 use Rattle.model.specs.declared.Code.{Code}
 use Rattle.model.specs.declared.Code.the-variants.{Ok as E-OK, Sys as E-SYS, Tmout as E-TMOUT}
+use Rattle.model.specs.declared.Outcome.{Outcome}
+use Rattle.model.specs.declared.Outcome.the-variants.{Finished, Waits}
 use Rattle.model.specs.declared.Wait.{Wait}
 use Rattle.model.specs.declared.Wait.the-variants.{NoWait, Sending, Receiving, AtMailbox}
 use Rattle.model.proofs.Tests.{to-within}
@@ -31,6 +36,7 @@ use Rattle.record.specs.declared.Step.{Step}
 use Rattle.record.specs.Meaning.{abs}
 use Rattle.record.specs.Sound.{Sound}
 use Rattle.record.specs.Step.{Stepped, refusal-of}
+use Rattle.record.proofs.Rows.{passes-or-not}
 use Rattle.demands.specs.Handled.{is-error, view-in, Handled}
 use Rattle.demands.proofs.Runs.{no-tick, follows}
 
@@ -114,6 +120,32 @@ module _ {s : State} {c : Call} {r : Step} (h : Stepped s c r) (S : Sound s) whe
       rw (follows h S .answer-is, step-tick (abs s) c (subst (λ n. T (eqb n 0)) (sym e) (eqb-refl 0)))
       (tick-says-ok (abs s))
 
+  pub no-error : 1 ≤ c .number → c .number ≢ 23 → T (not (refused true (view-in s c) c)) → NoError (r .answer .outcome)
+  no-error low other t = rw (follows h S .answer-is) (refusals (abs s) c (no-tick (c .number) low) .else-no-error t (not-T (eqb (c .number) 23) (λ u. other (eqb→eq (c .number) 23 u))))
+
+  -- Where no row applies there is no error, and the tick answers none.
+  other-step : c .number ≢ 23 → (code : Code) → r .answer .outcome ≡ Finished code → code ≢ E-OK → (r ≡ refusal-of code s) × T (is-error code)
+  other-step other code e fault = elim (ℕ-discrete (c .number) 0) [
+    | yes zero ↦ absurd (fault (ok code e (ap (λ (x : Answer). x .outcome) (tick-step zero))))
+    | no n ↦ passes-or-not (refused true v c) (by-row (omega arith)) (λ t. absurd (fault (ok-code code (r .answer .outcome) e (no-error (omega arith) other t))))
+  ]
+    where
+      v : View
+      v = view-in s c
+
+      ok : (code : Code) → r .answer .outcome ≡ Finished code → r .answer .outcome ≡ Finished E-OK → code ≡ E-OK
+      ok code e f = cc
+
+      ok-code : (code : Code) (x : Outcome) → x ≡ Finished code → NoError x → code ≡ E-OK
+      ok-code code (Finished d) e f = cc
+      ok-code code (Waits place) e f = cc
+
+      by-row : 1 ≤ c .number → T (refused true v c) → (r ≡ refusal-of code s) × T (is-error code)
+      by-row low t =
+          let step = refused-step low t in
+          let same : refusal true v c ≡ code = cc (ap (λ (x : Step). x .answer .outcome) step) in
+          subst (λ d. (r ≡ refusal-of d s) × T (is-error d)) same (step, refusal-is-error v c t)
+
 pub handled : Handled
 handled s c r h = record {
   unknown-number = h .unknown;
@@ -122,6 +154,7 @@ handled s c r h = record {
       let v = view-in s c in
       refused-step h S low (caller-refused v c t) ∙ ap (λ code. refusal-of code s) (caller-refusal v c (known v c low high) t);
   refused-by-row = λ S low t. (refused-step h S low t, refusal-is-error (view-in s c) c t);
+  no-other-refusal = λ S other code e fault. other-step h S other code e fault;
   tick-accepted = λ S e. tick-step h S e;
   stays-sound = λ S. follows h S .sound;
 }

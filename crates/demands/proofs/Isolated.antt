@@ -1,5 +1,5 @@
 -- Demand 3 for records: runs of records are the definition's runs of what they mean, and there the claim is proved (crate model).
-use mathlib.Core.Path.{_≡_, refl, sym, _∙_, ap}
+use mathlib.Core.Path.{_≡_, refl, sym, _∙_, ap, subst}
 use mathlib.Core.Bool.{Bool}
 use mathlib.Core.List.{List, [], _∷_}
 use Rattle.rows.specs.Merge.{Merge, Separate}
@@ -8,7 +8,7 @@ use Rattle.model.specs.Rows.{Model}
 use Rattle.model.specs.Step.{step}
 use Rattle.model.specs.declared.Answer.{Answer}
 use Rattle.model.specs.declared.Call.{Call}
-use Rattle.model.proofs.Isolation.{isolation, isolation-of-many}
+use Rattle.model.proofs.Isolation.{isolation, isolation-from-empty, isolation-of-many}
 use Rattle.model.proofs.WellFormed.{well-formed-linked}
 use Rattle.record.specs.declared.State.{State}
 use Rattle.record.specs.Meaning.{abs}
@@ -16,7 +16,7 @@ use Rattle.record.specs.Sound.{Sound}
 use Rattle.record.specs.Equal.{SameState}
 use Rattle.record.proofs.Equal.{equal-states}
 use Rattle.demands.specs.Runs.{Run, RunOfTurns, no-turn, one-turn}
-use Rattle.demands.specs.Isolated.{Undisturbed, Isolated, AllUndisturbed, IsolatedMany}
+use Rattle.demands.specs.Isolated.{Undisturbed, Isolated, IsolatedFromEmpty, AllUndisturbed, IsolatedMany}
 use Rattle.demands.proofs.Runs.{follows, RunFollows, run-follows}
 
 -- Sound records that mean the same are equal states.
@@ -37,6 +37,10 @@ undisturbed s S xs ys h = record {
 pub isolated : Isolated
 isolated s S a b apart placed-a placed-b xs ys own-a own-b =
     undisturbed s S xs ys (isolation (abs s) (well-formed-linked (abs s) (S .well-formed)) a b apart placed-a placed-b xs ys own-a own-b)
+
+pub isolated-from-empty : IsolatedFromEmpty
+isolated-from-empty s S counter e a b apart xs ys own-a own-b =
+    undisturbed s S xs ys (subst (λ m. Separate step m xs ys) (sym e) (isolation-from-empty counter a b apart xs ys own-a own-b))
 
 -- ── Any number of carriers ──
 

@@ -1,16 +1,19 @@
 -- A carrier's call leaves other rows alone: what it may change is closed, in that its rows name nothing outside, and a call stays within a closed set that has the rows it names.
 use mathlib.Core.Path.{_≡_, refl, sym, _∙_, ap, subst}
 use mathlib.Core.Bool.{Bool, true, false, not, _&&_, _||_}
+use mathlib.Core.List.{List}
 use Prim.Native.Nat.{ℕ}
 use lib.Dec.{T, T-not, not-T, eqb}
 use mir.Facts.{and-yes, yes-and}
+use Rattle.lists.specs.Lists.{Each, none, both}
 use Rattle.lists.proofs.Each.{each-map}
 use Rattle.rows.specs.Program as Program
 use Rattle.rows.specs.Program.{step-of}
-use Rattle.rows.proofs.Footprint.{Closed, outside}
+use Rattle.rows.proofs.Footprint.{Closed, keeps-closed, outside}
 use Rattle.model.specs.Rows.{Key, task, suspension, queue, mailbox, message, same-key, Row, MessageRow, Model}
 use Rattle.model.specs.Step.{program, step}
 use Rattle.model.specs.Isolation.{WaitsAt, QueuedAt, Linked, WaitsIn, QueuedIn, Placed, CallOf, Carrier, owns, Own, Disjoint}
+use Rattle.model.specs.declared.Answer.{Answer}
 use Rattle.model.specs.declared.Call.{Call}
 use Rattle.model.specs.declared.Wait.{Wait}
 use Rattle.model.specs.declared.Wait.the-variants.{NoWait, Sending, Receiving, AtMailbox}
@@ -20,16 +23,11 @@ use Rattle.model.proofs.Footprints.{NamedIn, in-program}
 use Rattle.model.proofs.WellFormed.{well-formed-linked}
 use Rattle.record.specs.declared.State.{State}
 use Rattle.record.specs.Meaning.{abs}
+use Rattle.record.specs.Sound.{Sound}
 use Rattle.demands.specs.NoForeignEffect.{waits-at-object, may-change, NoForeignEffect}
+use Rattle.demands.specs.Runs.{Run, no-call, one-call}
+use Rattle.demands.proofs.Tests.{or-right, or-cases}
 use Rattle.demands.proofs.Runs.{follows}
-
-or-right : (a b : Bool) → T b → T (a || b)
-or-right true b t = tt
-or-right false b t = t
-
-or-cases : {P : Type 0} (a b : Bool) → (T a → P) → (T b → P) → T (a || b) → P
-or-cases true b p q t = p tt
-or-cases false b p q t = q t
 
 -- ── What may change is closed ──
 
@@ -93,29 +91,37 @@ module _ (a b : Carrier) (apart : Disjoint a b) where
       or-cases (a .messages n) (not (eqb x 0) && a .mailboxes x) (λ u. apart (message n) u o)
       (λ u. let h = and-yes (not (eqb x 0)) (a .mailboxes x) u in apart (mailbox x) (h .1) (p .messages n o (h .0))) t
 
--- ── The call ──
+-- ── Calls ──
 
-module _ (m : Model) (a : Carrier) (c : Call) (own : CallOf (Own a) c) where
-  frame : Linked (m .rows) → Placed (Own a) (m .rows) → (k : Key) → (T (may-change a (m .rows) k) → ⊥) → step m c .state .rows k ≡ m .rows k
+-- What a call leaves alone, where its names lie in a closed set: the rows outside, the counter. The set stays closed.
+record Spares (S : Key → Type 0) (m n : Model) : Type 0 where
+  rows : (k : Key) → (S k → ⊥) → n .rows k ≡ m .rows k
+  counter : n .environment .counter ≡ m .environment .counter
+
+module _ (S : Key → Type 0) where
+  call-spares : (m : Model) (c : Call) → CallOf S c → Closed NamedIn S (m .rows) → Spares S m (step m c .state) × Closed NamedIn S (step m c .state .rows)
   unfolding step-of
-  frame l p k n =
+  call-spares m c own shut =
+      let inside = in-program S (m .environment) c (own .own-names) in
       rw (step-call m c (own .no-tick))
-      (outside same-key NamedIn (MayChange a (m .rows)) (λ x. Unit) (program (m .environment) c) (m .rows)
-      (in-program (MayChange a (m .rows)) (m .environment) c (each-map (λ j g t. own-may-change a (m .rows) j (g t)) (own .own-names)))
-      (closed a (m .rows) l p) k n)
+      (record { rows = outside same-key NamedIn S (λ x. Unit) (program (m .environment) c) (m .rows) inside shut; counter = refl },
+      keeps-closed same-key NamedIn S (λ x. Unit) (program (m .environment) c) (m .rows) inside shut)
 
-  same-counter : step m c .state .environment .counter ≡ m .environment .counter
-  unfolding step-of
-  same-counter = rw (step-call m c (own .no-tick))
+  run-spares : {s last : State} {calls : List Call} {answers : List Answer} → Sound s → Closed NamedIn S (abs s .rows) → Each (CallOf S) calls → Run s calls last answers → Spares S (abs s) (abs last)
+  run-spares sound shut none no-call = record { rows = λ k n. refl; counter = refl }
+  run-spares {s} sound shut (both {x = c} own owns) (one-call h rest) =
+      let f = follows h sound in
+      let k = rw (← f .meaning-is) at (call-spares (abs s) c own shut) in
+      let l = run-spares (f .sound) (k .1) owns rest in
+      record { rows = λ j n. l .rows j n ∙ k .0 .rows j n; counter = l .counter ∙ k .0 .counter }
 
 pub no-foreign-effect : NoForeignEffect
 unfolding abs
-no-foreign-effect s S a placed c own r h =
-    let f = follows h S in
-    let kept : (k : Key) → (T (may-change a (abs s .rows) k) → ⊥) → abs (r .state) .rows k ≡ abs s .rows k
-    = λ k n. ap (λ (m : Model). m .rows k) (f .meaning-is) ∙ frame (abs s) a c own (well-formed-linked (abs s) (S .well-formed)) placed k n in
+no-foreign-effect s S a placed calls own last answers p =
+    let own-calls : Each (CallOf (MayChange a (abs s .rows))) calls = each-map (λ c o. record { no-tick = o .no-tick; own-names = each-map (λ k g t. own-may-change a (abs s .rows) k (g t)) (o .own-names) }) own in
+    let spares = run-spares (MayChange a (abs s .rows)) S (closed a (abs s .rows) (well-formed-linked (abs s) (S .well-formed)) placed) own-calls p in
     record {
-      other-rows = λ k n. kept k (T-not (may-change a (abs s .rows) k) n);
-      counter = ap (λ (m : Model). m .environment .counter) (f .meaning-is) ∙ same-counter (abs s) a c own;
-      other-carrier = λ b apart placed-b k o. kept k (other a b apart (abs s .rows) placed-b k o);
+      other-rows = λ k n. spares .rows k (T-not (may-change a (abs s .rows) k) n);
+      counter = spares .counter;
+      other-carrier = λ b apart placed-b k o. spares .rows k (other a b apart (abs s .rows) placed-b k o);
     }

@@ -2,9 +2,11 @@
 use mathlib.Core.Path.{_≡_}
 use mathlib.Core.Bool.{Bool}
 use mathlib.Core.List.{List, []}
+use Prim.Native.Nat.{ℕ}
 use Rattle.lists.specs.Lists.{Each}
 use Rattle.rows.specs.Merge.{Merge}
 use Rattle.rows.specs.Merges.{share, MergeOf}
+use Rattle.model.specs.Rows.{empty-state}
 use Rattle.model.specs.declared.Call.{Call}
 use Rattle.model.specs.Isolation.{Placed, CallOf, Carrier, Own, Disjoint, Owners, OwnedBy}
 use Rattle.model.specs.declared.Answer.{Answer}
@@ -23,8 +25,8 @@ pub record Undisturbed (s : State) (xs ys : List Call) : Type 0 where
       → Merge turns x-answers y-answers z-answers
   -- All merges end in equal states.
   pub one-end : {turns turns′ : List Bool} {zs zs′ : List Call} → Merge turns xs ys zs → Merge turns′ xs ys zs′
-      → {last last′ : State} {answers answers′ : List Answer} → Run s zs last answers → Run s zs′ last′ answers′
-      → SameState last last′
+      → {last last′ : State} {answers answers′ : List Answer}
+      → Run s zs last answers → Run s zs′ last′ answers′ → SameState last last′
   -- Which are sound.
   pub end-sound : {turns : List Bool} {zs : List Call} → Merge turns xs ys zs → {last : State} {answers : List Answer} → Run s zs last answers → Sound last
 
@@ -38,6 +40,14 @@ Isolated =
     → (xs ys : List Call) → Each (CallOf (Own a)) xs → Each (CallOf (Own b)) ys
     → Undisturbed s xs ys
 
+-- The premises can be met: the empty state, which `State::empty` hands out, asks nothing more of the carriers.
+abbrev pub IsolatedFromEmpty : Type 0
+IsolatedFromEmpty =
+    (s : State) → Sound s → (counter : ℕ) → abs s ≡ empty-state counter
+    → (a b : Carrier) → Disjoint a b
+    → (xs ys : List Call) → Each (CallOf (Own a)) xs → Each (CallOf (Own b)) ys
+    → Undisturbed s xs ys
+
 -- ── Any number of carriers ──
 
 -- `MergeOf same-owner lists turns`: the turns, each an owner with a call, hold the owners' lists, each in its own order, and nothing else. `share same-owner i` is what of the turns is owner i's.
@@ -47,8 +57,8 @@ pub record AllUndisturbed {I : Type 0} (same-owner : Discrete I) (s : State) (li
       → (i : I) {i-last : State} {i-answers : List Answer} → Run s (lists i) i-last i-answers
       → share same-owner i answers ≡ i-answers
   pub one-end : {turns turns′ : List (I × Call)} → MergeOf same-owner lists turns → MergeOf same-owner lists turns′
-      → {last last′ : State} {answers answers′ : List (I × Answer)} → RunOfTurns s turns last answers → RunOfTurns s turns′ last′ answers′
-      → SameState last last′
+      → {last last′ : State} {answers answers′ : List (I × Answer)}
+      → RunOfTurns s turns last answers → RunOfTurns s turns′ last′ answers′ → SameState last last′
 
 -- Each number has one owner. An owner without calls need not be placed.
 abbrev pub IsolatedMany : Type 1
