@@ -1,28 +1,21 @@
 -- Demand 2: what the contract says, with the table's refusals of the definition carried over to records.
 use mathlib.Core.Path.{_≡_, refl, sym, _∙_, ap}
 use mathlib.Core.Bool.{Bool, true, false, not}
-use mathlib.Core.List.{List, [], _∷_}
-use mathlib.Core.Logic.{_≢_}
-use Prim.Native.Nat.{ℕ}
+use mathlib.Core.List.{List}
 use native.Mathlib.Omega.{arith}
-use lib.Dec.{T, not-T, eqb, eqb→eq}
+use lib.Dec.{T}
 use lib.ListN.{getD}
 use Rattle.lists.specs.Lists.{Each, none, both}
-use Rattle.rows.specs.Program as Program
 use Rattle.rows.specs.Program.{run, step-of}
-use Rattle.model.specs.Rows.{same-key, Row, Environment, Model}
+use Rattle.model.specs.Rows.{same-key, Model}
 use Rattle.model.specs.Codes.{finished}
-use Rattle.model.specs.Calls.{View, view-of}
+use Rattle.model.specs.Calls.{view-of}
 use Rattle.model.specs.Errors.{ErrorRow, some-applies, first-that-applies, refused, refusal}
-use Rattle.model.specs.Refusals.{NoError}
 use Rattle.model.specs.Step.{no-call, effects, effect, step}
-use Rattle.model.specs.declared.Answer.{Answer}
 use Rattle.model.specs.declared.Call.{Call}
 use Rattle.model.proofs.Tests.{or-left}
 use Rattle.model.proofs.Choices.{cond-yes, cond-no}
-use Rattle.model.proofs.Refusals.{refusals}
 use Rattle.model.proofs.Step.{step-call, run-accepted}
-use Rattle.record.specs.declared.Step.{Step}
 use Rattle.record.specs.Step.{refusal-of}
 use Rattle.record.proofs.Equal.{equal-states}
 use Rattle.record.specs.Meaning.{abs}
@@ -70,6 +63,7 @@ pub settled : Settled
 settled s s′ S S′ same c r r′ h h′ =
     let f = follows h S in
     let f′ = follows h′ S′ in
-    let m = equal-states s s′ S S′ .0 same in
-    (f .answer-is ∙ (ap (λ x. step x c .answer) m ∙ sym (f′ .answer-is)),
-    equal-states (r .state) (r′ .state) (f .sound) (f′ .sound) .1 (f .meaning-is ∙ (ap (λ x. step x c .state) m ∙ sym (f′ .meaning-is))))
+    let m = equal-states s s′ S S′ .0 same in (
+      f .answer-is ∙ (ap (λ x. step x c .answer) m ∙ sym (f′ .answer-is)),
+      equal-states (r .state) (r′ .state) (f .sound) (f′ .sound) .1 (f .meaning-is ∙ (ap (λ x. step x c .state) m ∙ sym (f′ .meaning-is))),
+    )

@@ -3,7 +3,7 @@ use mathlib.Core.Path.{_≡_, refl, sym, _∙_, ap, subst}
 use mathlib.Core.Bool.{Bool, true, false, not, cond, _||_}
 use mathlib.Core.List.{List, [], _∷_}
 use mathlib.Core.Logic.{_≢_}
-use Prim.Native.Nat.{ℕ, suc, _≤_, _<_, _+_, _%_}
+use Prim.Native.Nat.{ℕ, suc, _≤_, _+_, _%_}
 use native.Mathlib.Omega.{arith}
 use native.Mathlib.Decide.{ℕ-discrete}
 use lib.Dec.{T, T-not, not-T, eqb, eqb-refl, eqb→eq}
@@ -12,7 +12,7 @@ use Rattle.rows.specs.Program as Program
 use Rattle.model.specs.Sizes.{call-limit, task-limit, counter-span, within}
 use Rattle.model.specs.Rows.{Row, Effect, Model}
 use Rattle.model.specs.Codes.{finished}
-use Rattle.model.specs.Calls.{View, view-of}
+use Rattle.model.specs.Calls.{View}
 use Rattle.model.specs.Errors.{unknown, caller-cannot-call, ErrorRow, error-table, some-applies, first-that-applies, refused, refusal}
 use Rattle.model.specs.WaitQueues.{take-out, end-wait}
 use Rattle.model.specs.Tasks.{expire, tick}
@@ -26,7 +26,7 @@ use Rattle.model.specs.declared.Outcome.{Outcome}
 use Rattle.model.specs.declared.Outcome.the-variants.{Finished, Waits}
 use Rattle.model.specs.declared.Wait.{Wait}
 use Rattle.model.specs.declared.Wait.the-variants.{NoWait, Sending, Receiving, AtMailbox}
-use Rattle.model.proofs.Tests.{to-within}
+use Rattle.model.proofs.Tests.{or-left, to-within}
 use Rattle.model.proofs.Choices.{cond-yes, cond-no}
 use Rattle.model.proofs.Step.{step-tick}
 use Rattle.model.proofs.Refusals.{refusals}
@@ -38,6 +38,7 @@ use Rattle.record.specs.Sound.{Sound}
 use Rattle.record.specs.Step.{Stepped, refusal-of}
 use Rattle.record.proofs.Rows.{passes-or-not}
 use Rattle.demands.specs.Handled.{is-error, view-in, Handled}
+use Rattle.demands.proofs.Tests.{or-right}
 use Rattle.demands.proofs.Runs.{no-tick, follows}
 
 -- ── The table ──
@@ -64,12 +65,7 @@ module _ (v : View) (c : Call) where
 
   caller-refused : T (caller-cannot-call v c) → T (refused true v c)
   unfolding refused error-table some-applies
-  caller-refused t = go (unknown c) (caller-cannot-call v c) _ t
-    where
-      go : (a b d : Bool) → T b → T (a || (b || d))
-      go true b d t = tt
-      go false true d t = tt
-      go false false d t = absurd t
+  caller-refused t = or-right (unknown c) _ (or-left (caller-cannot-call v c) _ t)
 
   caller-refusal : T (not (unknown c)) → T (caller-cannot-call v c) → refusal true v c ≡ E-SYS
   unfolding refusal error-table first-that-applies

@@ -1,10 +1,8 @@
 -- Demand 3 for records: runs of records are the definition's runs of what they mean, and there the claim is proved (crate model).
 use mathlib.Core.Path.{_≡_, refl, sym, _∙_, ap, subst}
-use mathlib.Core.Bool.{Bool}
-use mathlib.Core.List.{List, [], _∷_}
-use Rattle.rows.specs.Merge.{Merge, Separate}
-use Rattle.rows.specs.Merges.{share, MergeOf, end-of-turns, answers-of-turns, SeparateAll}
-use Rattle.model.specs.Rows.{Model}
+use mathlib.Core.List.{List, _∷_}
+use Rattle.rows.specs.Merge.{Separate}
+use Rattle.rows.specs.Merges.{share, end-of-turns, answers-of-turns, SeparateAll}
 use Rattle.model.specs.Step.{step}
 use Rattle.model.specs.declared.Answer.{Answer}
 use Rattle.model.specs.declared.Call.{Call}
@@ -15,9 +13,9 @@ use Rattle.record.specs.Meaning.{abs}
 use Rattle.record.specs.Sound.{Sound}
 use Rattle.record.specs.Equal.{SameState}
 use Rattle.record.proofs.Equal.{equal-states}
-use Rattle.demands.specs.Runs.{Run, RunOfTurns, no-turn, one-turn}
-use Rattle.demands.specs.Isolated.{Undisturbed, Isolated, IsolatedFromEmpty, AllUndisturbed, IsolatedMany}
-use Rattle.demands.proofs.Runs.{follows, RunFollows, run-follows}
+use Rattle.demands.specs.Runs.{RunOfTurns, no-turn, one-turn}
+use Rattle.demands.specs.Isolated.{Undisturbed, Isolated, IsolatedFromEmpty, IsolatedMany}
+use Rattle.demands.proofs.Runs.{follows, run-follows}
 
 -- Sound records that mean the same are equal states.
 same-state : (s u : State) → Sound s → Sound u → abs s ≡ abs u → SameState s u

@@ -1,18 +1,19 @@
 -- A carrier's call leaves other rows alone: what it may change is closed, in that its rows name nothing outside, and a call stays within a closed set that has the rows it names.
-use mathlib.Core.Path.{_≡_, refl, sym, _∙_, ap, subst}
-use mathlib.Core.Bool.{Bool, true, false, not, _&&_, _||_}
+use mathlib.Core.Path.{_≡_, refl, sym, _∙_, subst}
+use mathlib.Core.Bool.{Bool, not, _&&_, _||_}
 use mathlib.Core.List.{List}
+use mathlib.Core.Logic.{⊎-elim}
 use Prim.Native.Nat.{ℕ}
-use lib.Dec.{T, T-not, not-T, eqb}
-use mir.Facts.{and-yes, yes-and}
+use lib.Dec.{T, T-not, eqb}
+use mir.Facts.{and-yes, yes-and, or-yes}
 use Rattle.lists.specs.Lists.{Each, none, both}
 use Rattle.lists.proofs.Each.{each-map}
 use Rattle.rows.specs.Program as Program
 use Rattle.rows.specs.Program.{step-of}
 use Rattle.rows.proofs.Footprint.{Closed, keeps-closed, outside}
-use Rattle.model.specs.Rows.{Key, task, suspension, queue, mailbox, message, same-key, Row, MessageRow, Model}
+use Rattle.model.specs.Rows.{Key, task, suspension, queue, mailbox, message, same-key, Row, Model}
 use Rattle.model.specs.Step.{program, step}
-use Rattle.model.specs.Isolation.{WaitsAt, QueuedAt, Linked, WaitsIn, QueuedIn, Placed, CallOf, Carrier, owns, Own, Disjoint}
+use Rattle.model.specs.Isolation.{WaitsAt, QueuedAt, Linked, WaitsIn, QueuedIn, Placed, CallOf, Carrier, Own, Disjoint}
 use Rattle.model.specs.declared.Answer.{Answer}
 use Rattle.model.specs.declared.Call.{Call}
 use Rattle.model.specs.declared.Wait.{Wait}
@@ -26,7 +27,7 @@ use Rattle.record.specs.Meaning.{abs}
 use Rattle.record.specs.Sound.{Sound}
 use Rattle.demands.specs.NoForeignEffect.{waits-at-object, may-change, NoForeignEffect}
 use Rattle.demands.specs.Runs.{Run, no-call, one-call}
-use Rattle.demands.proofs.Tests.{or-right, or-cases}
+use Rattle.demands.proofs.Tests.{or-right}
 use Rattle.demands.proofs.Runs.{follows}
 
 -- ── What may change is closed ──
@@ -44,9 +45,9 @@ module _ (a : Carrier) (m : Program.Rows Row) where
 
   object-of-wait : (own : Bool) (w : Wait) → (T own → WaitsIn (Own a) w) → T (own || waits-at-object a w) → WaitsIn MayChange w
   object-of-wait own NoWait p t = tt
-  object-of-wait own (Sending q end word) p t = or-cases own (a .queues q) p (λ u. u) t
-  object-of-wait own (Receiving q end) p t = or-cases own (a .queues q) p (λ u. u) t
-  object-of-wait own (AtMailbox b end) p t = or-cases own (a .mailboxes b) p (λ u. u) t
+  object-of-wait own (Sending q end word) p t = ⊎-elim p (λ u. u) (or-yes own (a .queues q) t)
+  object-of-wait own (Receiving q end) p t = ⊎-elim p (λ u. u) (or-yes own (a .queues q) t)
+  object-of-wait own (AtMailbox b end) p t = ⊎-elim p (λ u. u) (or-yes own (a .mailboxes b) t)
 
   waits-at-own : (k : Key) (w : Wait) → Own a k → WaitsAt k w → T (waits-at-object a w)
   waits-at-own k NoWait o e = absurd e
@@ -69,7 +70,7 @@ module _ (a : Carrier) (m : Program.Rows Row) where
   closed l p (mailbox n) t = (each-map (standing (mailbox n) t) (l .waiters n), each-map (queued n t) (l .messages n))
   closed l p (message n) t =
       let b = m (message n) .queued-in in
-      or-cases (a .messages n) (not (eqb b 0) && a .mailboxes b) (p .messages n) (λ u some. and-yes (not (eqb b 0)) (a .mailboxes b) u .1) t
+      ⊎-elim (p .messages n) (λ u some. and-yes (not (eqb b 0)) (a .mailboxes b) u .1) (or-yes (a .messages n) (not (eqb b 0) && a .mailboxes b) t)
 
 -- ── Another carrier's rows are not among it ──
 
@@ -82,14 +83,15 @@ module _ (a b : Carrier) (apart : Disjoint a b) where
 
   other : (m : Program.Rows Row) → Placed (Own b) m → (k : Key) → Own b k → T (may-change a m k) → ⊥
   unfolding QueuedIn
-  other m p (task n) o t = or-cases (a .tasks n) _ (λ u. apart (task n) u o) (other-object (m (task n) .wait) (p .tasks n o)) t
+  other m p (task n) o t = ⊎-elim (λ u. apart (task n) u o) (other-object (m (task n) .wait) (p .tasks n o)) (or-yes (a .tasks n) _ t)
   other m p (suspension n) o t = apart (suspension n) t o
   other m p (queue n) o t = apart (queue n) t o
   other m p (mailbox n) o t = apart (mailbox n) t o
   other m p (message n) o t =
       let x = m (message n) .queued-in in
-      or-cases (a .messages n) (not (eqb x 0) && a .mailboxes x) (λ u. apart (message n) u o)
-      (λ u. let h = and-yes (not (eqb x 0)) (a .mailboxes x) u in apart (mailbox x) (h .1) (p .messages n o (h .0))) t
+      ⊎-elim (λ u. apart (message n) u o)
+      (λ u. let h = and-yes (not (eqb x 0)) (a .mailboxes x) u in apart (mailbox x) (h .1) (p .messages n o (h .0)))
+      (or-yes (a .messages n) (not (eqb x 0) && a .mailboxes x) t)
 
 -- ── Calls ──
 
@@ -103,9 +105,10 @@ module _ (S : Key → Type 0) where
   unfolding step-of
   call-spares m c own shut =
       let inside = in-program S (m .environment) c (own .own-names) in
-      rw (step-call m c (own .no-tick))
-      (record { rows = outside same-key NamedIn S (λ x. Unit) (program (m .environment) c) (m .rows) inside shut; counter = refl },
-      keeps-closed same-key NamedIn S (λ x. Unit) (program (m .environment) c) (m .rows) inside shut)
+      rw (step-call m c (own .no-tick)) (
+        record { rows = outside same-key NamedIn S (λ x. Unit) (program (m .environment) c) (m .rows) inside shut; counter = refl },
+        keeps-closed same-key NamedIn S (λ x. Unit) (program (m .environment) c) (m .rows) inside shut,
+      )
 
   run-spares : {s last : State} {calls : List Call} {answers : List Answer} → Sound s → Closed NamedIn S (abs s .rows) → Each (CallOf S) calls → Run s calls last answers → Spares S (abs s) (abs last)
   run-spares sound shut none no-call = record { rows = λ k n. refl; counter = refl }

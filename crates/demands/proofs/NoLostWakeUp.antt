@@ -1,5 +1,5 @@
 -- Nobody waits in vain: every record that is reached is sound, and a sound record says so.
-use mathlib.Core.Path.{_≡_, ap}
+use mathlib.Core.Path.{ap}
 use mathlib.Core.Bool.{not}
 use mathlib.Core.List.{List, [], _∷_, List·Memᴰ as In, List·Memᴰ·not-nil}
 use Prim.Native.Nat.{ℕ}

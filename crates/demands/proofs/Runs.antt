@@ -1,5 +1,5 @@
 -- A step of a sound record follows the definition, whatever the call's number, so a run does, and lists run: by induction on the run.
-use mathlib.Core.Path.{_≡_, refl, sym, _∙_, ap, subst}
+use mathlib.Core.Path.{_≡_, refl, sym, ap, subst}
 use mathlib.Core.Bool.{Bool, true, false, not, _&&_}
 use mathlib.Core.List.{List, [], _∷_}
 use Prim.Native.Nat.{ℕ, _≤_, _<_}
@@ -7,12 +7,11 @@ use native.Mathlib.Omega.{arith}
 use native.Mathlib.Decide.{decLt}
 use lib.Dec.{T, eqb, leb, not-T, eqb→eq}
 use borrow.Author.Tests.{lt-leb}
-use Rattle.lists.specs.Lists.{Each, none, both}
+use Rattle.lists.specs.Lists.{none, both}
 use Rattle.rows.specs.Runs.{end, answers}
-use Rattle.model.specs.Sizes.{call-limit, within}
+use Rattle.model.specs.Sizes.{call-limit}
 use Rattle.model.specs.Calls.{View, view-of}
 use Rattle.model.specs.declared.Call.{Call}
-use Rattle.model.specs.Codes.{finished}
 use Rattle.model.specs.declared.Code.the-variants.{Par as E-PAR}
 use Rattle.model.specs.Errors.{unknown, error-table, some-applies, first-that-applies, refused, refusal}
 use Rattle.model.specs.Step.{step}
@@ -22,8 +21,8 @@ use Rattle.record.specs.declared.State.{State}
 use Rattle.record.specs.declared.Step.{Step}
 use Rattle.record.specs.Meaning.{abs}
 use Rattle.record.specs.Sound.{Sound}
-use Rattle.record.specs.Step.{Stepped, Follows, refusal-of}
-use Rattle.demands.specs.Runs.{Run, no-call, one-call, SomeRun, ListsRun}
+use Rattle.record.specs.Step.{Stepped, Follows}
+use Rattle.demands.specs.Runs.{Run, no-call, one-call, ListsRun}
 
 -- A number above 23 is unknown: the first row of the table applies.
 is-unknown : (c : Call) → call-limit < c .number → unknown c ≡ true

@@ -35,8 +35,7 @@ pub record Undisturbed (s : State) (xs ys : List Call) : Type 0 where
 abbrev pub Isolated : Type 0
 Isolated =
     (s : State) → Sound s
-    → (a b : Carrier) → Disjoint a b
-    → Placed (Own a) (abs s .rows) → Placed (Own b) (abs s .rows)
+    → (a b : Carrier) → Disjoint a b → Placed (Own a) (abs s .rows) → Placed (Own b) (abs s .rows)
     → (xs ys : List Call) → Each (CallOf (Own a)) xs → Each (CallOf (Own b)) ys
     → Undisturbed s xs ys
 
