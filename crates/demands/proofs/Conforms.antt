@@ -17,8 +17,8 @@ use Rattle.model.proofs.Tests.{or-left}
 use Rattle.model.proofs.Choices.{cond-yes, cond-no}
 use Rattle.model.proofs.Step.{step-call, run-accepted}
 use Rattle.record.specs.Step.{refusal-of}
-use Rattle.record.proofs.Equal.{equal-states}
 use Rattle.record.specs.Meaning.{abs}
+use Rattle.record.proofs.Equal.{equal-states}
 use Rattle.demands.specs.Conforms.{FirstToApply, applies, earlier-passed, Conforms, Settled}
 use Rattle.demands.proofs.Tests.{or-right}
 use Rattle.demands.proofs.Runs.{no-tick, follows}

@@ -1,4 +1,4 @@
--- Nobody waits in vain: every record that is reached is sound, and a sound record says so.
+-- Nobody waits for what is there: every record that is reached is sound, and a sound record says so.
 use mathlib.Core.Path.{ap}
 use mathlib.Core.Bool.{not}
 use mathlib.Core.List.{List, [], _∷_, List·Memᴰ as In, List·Memᴰ·not-nil}
@@ -8,7 +8,7 @@ use Rattle.lists.specs.Lists.{empty}
 use Rattle.rows.specs.Program as Program
 use Rattle.model.specs.Rows.{Row}
 use Rattle.model.specs.WellFormed.{senders-of, receivers-of, waiters-of, wait-queue, WellFormedRows}
-use Rattle.demands.specs.NoLostWakeUp.{NobodyWaitsInVain, NoLostWakeUp}
+use Rattle.demands.specs.NoLostWakeUp.{NobodyWaitsForWhatIsThere, NoLostWakeUp}
 use Rattle.demands.proofs.Runs.{run-follows}
 
 not-empty : {t : ℕ} {l : List ℕ} → In t l → T (not (empty l))
@@ -16,8 +16,8 @@ unfolding empty
 not-empty {l = []} i = absurd (List·Memᴰ·not-nil i)
 not-empty {l = x ∷ l} i = tt
 
-in-vain : {counter : ℕ} {soonest : ℕ → ℕ} {m : Program.Rows Row} → WellFormedRows counter soonest m → NobodyWaitsInVain m
-in-vain w = record {
+nobody-waits : {counter : ℕ} {soonest : ℕ → ℕ} {m : Program.Rows Row} → WellFormedRows counter soonest m → NobodyWaitsForWhatIsThere m
+nobody-waits w = record {
   receivers = λ t q i. w .queues q .receivers (not-empty i);
   senders = λ t q i. w .queues q .senders (not-empty i);
   waiters = λ t b i. w .mailboxes b .waiters (not-empty i);
@@ -27,4 +27,4 @@ in-vain w = record {
 }
 
 pub no-lost-wake-up : NoLostWakeUp
-no-lost-wake-up s S calls last answers p = in-vain (run-follows S p .sound .well-formed .rows)
+no-lost-wake-up s S calls last answers p = nobody-waits (run-follows S p .sound .well-formed .rows)

@@ -11,10 +11,10 @@ use Rattle.lists.specs.Lists.{none, both}
 use Rattle.rows.specs.Runs.{end, answers}
 use Rattle.model.specs.Sizes.{call-limit}
 use Rattle.model.specs.Calls.{View, view-of}
-use Rattle.model.specs.declared.Call.{Call}
-use Rattle.model.specs.declared.Code.the-variants.{Par as E-PAR}
 use Rattle.model.specs.Errors.{unknown, error-table, some-applies, first-that-applies, refused, refusal}
 use Rattle.model.specs.Step.{step}
+use Rattle.model.specs.declared.Call.{Call}
+use Rattle.model.specs.declared.Code.the-variants.{Par as E-PAR}
 use Rattle.model.specs.declared.Answer.{Answer}
 use Rattle.model.proofs.Refusals.{refusals}
 use Rattle.record.specs.declared.State.{State}

@@ -7,10 +7,10 @@ use Prim.Native.Nat.{_≤_}
 use lib.Dec.{T}
 use Rattle.lists.specs.Lists.{Each}
 use Rattle.model.specs.Codes.{finished}
-use Rattle.model.specs.declared.Call.{Call}
 use Rattle.model.specs.Errors.{ErrorRow, error-table}
 use Rattle.model.specs.Step.{step}
 use Rattle.model.specs.Refusals.{NoError}
+use Rattle.model.specs.declared.Call.{Call}
 use Rattle.record.specs.declared.State.{State}
 use Rattle.record.specs.declared.Step.{Step}
 use Rattle.record.specs.Meaning.{abs}

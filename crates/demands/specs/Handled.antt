@@ -6,11 +6,11 @@ use Prim.Native.Nat.{_<_, _≤_}
 use lib.Dec.{T}
 use Rattle.model.specs.Sizes.{call-limit}
 use Rattle.model.specs.Codes.{finished}
+use Rattle.model.specs.Calls.{View, view-of}
+use Rattle.model.specs.Errors.{caller-cannot-call, refused, refusal}
 use Rattle.model.specs.declared.Code.{Code}
 use Rattle.model.specs.declared.Code.the-variants.{Ok as E-OK, Sys as E-SYS, Par as E-PAR, Id as E-ID, Ctx as E-CTX, Iluse as E-ILUSE, Obj as E-OBJ, Noexs as E-NOEXS, Qovr as E-QOVR, Rlwai as E-RLWAI, Tmout as E-TMOUT, Dlt as E-DLT}
-use Rattle.model.specs.Calls.{View, view-of}
 use Rattle.model.specs.declared.Call.{Call}
-use Rattle.model.specs.Errors.{caller-cannot-call, refused, refusal}
 use Rattle.model.specs.declared.Outcome.the-variants.{Finished}
 use Rattle.record.specs.declared.State.{State}
 use Rattle.record.specs.declared.Step.{Step}

@@ -7,8 +7,8 @@ use Rattle.lists.specs.Lists.{Each}
 use Rattle.rows.specs.Merge.{Merge}
 use Rattle.rows.specs.Merges.{share, MergeOf}
 use Rattle.model.specs.Rows.{empty-state}
-use Rattle.model.specs.declared.Call.{Call}
 use Rattle.model.specs.Isolation.{Placed, CallOf, Carrier, Own, Disjoint, Owners, OwnedBy}
+use Rattle.model.specs.declared.Call.{Call}
 use Rattle.model.specs.declared.Answer.{Answer}
 use Rattle.record.specs.declared.State.{State}
 use Rattle.record.specs.Meaning.{abs}
@@ -27,7 +27,7 @@ pub record Undisturbed (s : State) (xs ys : List Call) : Type 0 where
   pub one-end : {turns turns′ : List Bool} {zs zs′ : List Call} → Merge turns xs ys zs → Merge turns′ xs ys zs′
       → {last last′ : State} {answers answers′ : List Answer}
       → Run s zs last answers → Run s zs′ last′ answers′ → SameState last last′
-  -- Which are sound.
+  -- The end states are sound.
   pub end-sound : {turns : List Bool} {zs : List Call} → Merge turns xs ys zs → {last : State} {answers : List Answer} → Run s zs last answers → Sound last
 
 -- From any sound state, two carriers that have no number in common, each one's waiting tasks and queued messages only in its own objects; each with any list of calls, of known number or not,

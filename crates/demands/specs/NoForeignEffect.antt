@@ -6,11 +6,11 @@ use lib.Dec.{T, eqb}
 use Rattle.lists.specs.Lists.{Each}
 use Rattle.rows.specs.Program as Program
 use Rattle.model.specs.Rows.{Key, task, suspension, queue, mailbox, message, Row}
+use Rattle.model.specs.Isolation.{Placed, CallOf, Carrier, Own, Disjoint}
 use Rattle.model.specs.declared.Answer.{Answer}
 use Rattle.model.specs.declared.Call.{Call}
 use Rattle.model.specs.declared.Wait.{Wait}
 use Rattle.model.specs.declared.Wait.the-variants.{NoWait, Sending, Receiving, AtMailbox}
-use Rattle.model.specs.Isolation.{Placed, CallOf, Carrier, Own, Disjoint}
 use Rattle.record.specs.declared.State.{State}
 use Rattle.record.specs.Meaning.{abs}
 use Rattle.record.specs.Sound.{Sound}

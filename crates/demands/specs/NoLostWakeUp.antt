@@ -14,7 +14,7 @@ use Rattle.record.specs.Meaning.{abs}
 use Rattle.record.specs.Sound.{Sound}
 use Rattle.demands.specs.Runs.{Run}
 
-pub record NobodyWaitsInVain (m : Program.Rows Row) : Type 0 where
+pub record NobodyWaitsForWhatIsThere (m : Program.Rows Row) : Type 0 where
   -- At a queue where a receiver stands there is no word and no sender.
   pub receivers : (t q : ℕ) → In t (m (queue q) .receivers) → (m (queue q) .words ≡ []) × (m (queue q) .senders ≡ [])
   -- At a queue where a sender stands there is no room and no receiver.
@@ -28,4 +28,4 @@ pub record NobodyWaitsInVain (m : Program.Rows Row) : Type 0 where
 
 -- Any list of calls and ticks.
 abbrev pub NoLostWakeUp : Type 0
-NoLostWakeUp = (s : State) → Sound s → (calls : List Call) (last : State) (answers : List Answer) → Run s calls last answers → NobodyWaitsInVain (abs last .rows)
+NoLostWakeUp = (s : State) → Sound s → (calls : List Call) (last : State) (answers : List Answer) → Run s calls last answers → NobodyWaitsForWhatIsThere (abs last .rows)
