@@ -1,0 +1,69 @@
+-- Demand 2: what the contract says, with the table's refusals of the definition carried over to records.
+use mathlib.Core.Path.{_≡_, refl, sym, _∙_, ap}
+use mathlib.Core.Bool.{Bool, true, false, not}
+use mathlib.Core.List.{List}
+use native.Mathlib.Omega.{arith}
+use lib.Dec.{T}
+use lib.ListN.{getD}
+use Rattle.lists.specs.Lists.{Each, none, both}
+use Rattle.rows.specs.Program.{run, step-of}
+use Rattle.model.specs.Rows.{same-key, Model}
+use Rattle.model.specs.Codes.{finished}
+use Rattle.model.specs.Calls.{view-of}
+use Rattle.model.specs.Errors.{ErrorRow, some-applies, first-that-applies, refused, refusal}
+use Rattle.model.specs.Step.{no-call, effects, effect, step}
+use Rattle.model.specs.declared.Call.{Call}
+use Rattle.model.proofs.Tests.{or-left}
+use Rattle.model.proofs.Choices.{cond-yes, cond-no}
+use Rattle.model.proofs.Step.{step-call, run-accepted}
+use Rattle.record.specs.Step.{refusal-of}
+use Rattle.record.specs.Meaning.{abs}
+use Rattle.record.proofs.Equal.{equal-states}
+use Rattle.demands.specs.Conforms.{FirstToApply, applies, earlier-passed, Conforms, Settled}
+use Rattle.demands.proofs.Tests.{or-right}
+use Rattle.demands.proofs.Runs.{no-tick, follows}
+use Rattle.demands.proofs.Handled.{refused-step, no-error}
+
+-- Fetch that no row refuses answers the stored pair.
+fetch-answers : (m : Model) (c : Call) → c .number ≡ 23 → T (not (refused true (view-of (m .rows) c) c))
+    → step m c .answer ≡ finished (view-of (m .rows) c .the-task .code) (view-of (m .rows) c .the-task .word) 0 0
+unfolding step-of effect effects run
+fetch-answers m c e t =
+    rw (step-call m c (no-tick (c .number) (omega arith)), run-accepted (m .environment) c (m .rows) t)
+    (ap (λ n. run same-key (getD effects n no-call (m .environment) (view-of (m .rows) c) c) (m .rows) .answer) e)
+
+-- The first row to apply gives the code; where none applies there is no refusal.
+first-applies : {row : ErrorRow} {rows : List ErrorRow} → FirstToApply row rows → T (some-applies rows) × (first-that-applies rows ≡ row .code)
+unfolding some-applies first-that-applies
+first-applies {row} (applies {rows = rows} t) = (or-left (row .applies) (some-applies rows) t, cond-yes (row .applies) _ _ t)
+first-applies (earlier-passed {earlier = earlier} {rows = rows} n f) = let k = first-applies f in (or-right (earlier .applies) (some-applies rows) (k .0), cond-no (earlier .applies) _ _ n ∙ k .1)
+
+none-applies : {rows : List ErrorRow} → Each (λ row. T (not (row .applies))) rows → T (not (some-applies rows))
+unfolding some-applies
+none-applies none = tt
+none-applies (both {x = row} n e) = rw (unless (row .applies) n) (none-applies e)
+  where
+    unless : (b : Bool) → T (not b) → b ≡ false
+    unless true t = absurd t
+    unless false t = refl
+
+pub conforms : Conforms
+unfolding refused refusal
+conforms s S c r h =
+    let f = follows h S in
+    record {
+      answer-is = f .answer-is;
+      state-is = f .meaning-is;
+      error = λ low row first. let k = first-applies first in refused-step h S low (k .0) ∙ ap (λ code. refusal-of code s) (k .1);
+      no-error = λ low other e. no-error h S low other (none-applies e);
+      fetched = λ e n. f .answer-is ∙ fetch-answers (abs s) c e (none-applies n);
+    }
+
+pub settled : Settled
+settled s s′ S S′ same c r r′ h h′ =
+    let f = follows h S in
+    let f′ = follows h′ S′ in
+    let m = equal-states s s′ S S′ .0 same in (
+      f .answer-is ∙ (ap (λ x. step x c .answer) m ∙ sym (f′ .answer-is)),
+      equal-states (r .state) (r′ .state) (f .sound) (f′ .sound) .1 (f .meaning-is ∙ (ap (λ x. step x c .state) m ∙ sym (f′ .meaning-is))),
+    )

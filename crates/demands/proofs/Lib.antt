@@ -1,0 +1,7 @@
+pub mod Tests
+pub mod Runs
+pub mod Handled
+pub mod Conforms
+pub mod Isolated
+pub mod NoLostWakeUp
+pub mod NoForeignEffect

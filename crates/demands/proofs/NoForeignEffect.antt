@@ -1,0 +1,130 @@
+-- A carrier's call leaves other rows alone: what it may change is closed, in that its rows name nothing outside, and a call stays within a closed set that has the rows it names.
+use mathlib.Core.Path.{_≡_, refl, sym, _∙_, subst}
+use mathlib.Core.Bool.{Bool, not, _&&_, _||_}
+use mathlib.Core.List.{List}
+use mathlib.Core.Logic.{⊎-elim}
+use Prim.Native.Nat.{ℕ}
+use lib.Dec.{T, T-not, eqb}
+use mir.Facts.{and-yes, yes-and, or-yes}
+use Rattle.lists.specs.Lists.{Each, none, both}
+use Rattle.lists.proofs.Each.{each-map}
+use Rattle.rows.specs.Program as Program
+use Rattle.rows.specs.Program.{step-of}
+use Rattle.rows.proofs.Footprint.{Closed, keeps-closed, outside}
+use Rattle.model.specs.Rows.{Key, task, suspension, queue, mailbox, message, same-key, Row, Model}
+use Rattle.model.specs.Step.{program, step}
+use Rattle.model.specs.Isolation.{WaitsAt, QueuedAt, Linked, WaitsIn, QueuedIn, Placed, CallOf, Carrier, Own, Disjoint}
+use Rattle.model.specs.declared.Answer.{Answer}
+use Rattle.model.specs.declared.Call.{Call}
+use Rattle.model.specs.declared.Wait.{Wait}
+use Rattle.model.specs.declared.Wait.the-variants.{NoWait, Sending, Receiving, AtMailbox}
+use Rattle.model.proofs.Tests.{or-left}
+use Rattle.model.proofs.Step.{step-call}
+use Rattle.model.proofs.Footprints.{NamedIn, in-program}
+use Rattle.model.proofs.WellFormed.{well-formed-linked}
+use Rattle.record.specs.declared.State.{State}
+use Rattle.record.specs.Meaning.{abs}
+use Rattle.record.specs.Sound.{Sound}
+use Rattle.demands.specs.NoForeignEffect.{waits-at-object, may-change, NoForeignEffect}
+use Rattle.demands.specs.Runs.{Run, no-call, one-call}
+use Rattle.demands.proofs.Tests.{or-right}
+use Rattle.demands.proofs.Runs.{follows}
+
+-- ── What may change is closed ──
+
+module _ (a : Carrier) (m : Program.Rows Row) where
+  abbrev MayChange : Key → Type 0
+  MayChange k = T (may-change a m k)
+
+  own-may-change : (k : Key) → Own a k → MayChange k
+  own-may-change (task n) t = or-left (a .tasks n) _ t
+  own-may-change (suspension n) t = t
+  own-may-change (queue n) t = t
+  own-may-change (mailbox n) t = t
+  own-may-change (message n) t = or-left (a .messages n) _ t
+
+  object-of-wait : (own : Bool) (w : Wait) → (T own → WaitsIn (Own a) w) → T (own || waits-at-object a w) → WaitsIn MayChange w
+  object-of-wait own NoWait p t = tt
+  object-of-wait own (Sending q end word) p t = ⊎-elim p (λ u. u) (or-yes own (a .queues q) t)
+  object-of-wait own (Receiving q end) p t = ⊎-elim p (λ u. u) (or-yes own (a .queues q) t)
+  object-of-wait own (AtMailbox b end) p t = ⊎-elim p (λ u. u) (or-yes own (a .mailboxes b) t)
+
+  waits-at-own : (k : Key) (w : Wait) → Own a k → WaitsAt k w → T (waits-at-object a w)
+  waits-at-own k NoWait o e = absurd e
+  waits-at-own k (Sending q end word) o e = subst (Own a) (sym e) o
+  waits-at-own k (Receiving q end) o e = subst (Own a) (sym e) o
+  waits-at-own k (AtMailbox b end) o e = subst (Own a) (sym e) o
+
+  standing : (k : Key) → Own a k → (t : ℕ) → WaitsAt k (m (task t) .wait) → MayChange (task t)
+  standing k o t e = or-right (a .tasks t) _ (waits-at-own k (m (task t) .wait) o e)
+
+  queued : (b : ℕ) → Own a (mailbox b) → (g : ℕ) → QueuedAt b (m (message g)) → MayChange (message g)
+  queued b o g e = or-right (a .messages g) _
+      (subst (λ n. T (not (eqb n 0) && a .mailboxes n)) (sym (e .queued-here)) (yes-and (not (eqb b 0)) (a .mailboxes b) (e .a-mailbox) o))
+
+  closed : Linked m → Placed (Own a) m → Closed NamedIn MayChange m
+  unfolding QueuedIn
+  closed l p (task n) t = object-of-wait (a .tasks n) (m (task n) .wait) (p .tasks n) t
+  closed l p (suspension n) t = tt
+  closed l p (queue n) t = (each-map (standing (queue n) t) (l .senders n), each-map (standing (queue n) t) (l .receivers n))
+  closed l p (mailbox n) t = (each-map (standing (mailbox n) t) (l .waiters n), each-map (queued n t) (l .messages n))
+  closed l p (message n) t =
+      let b = m (message n) .queued-in in
+      ⊎-elim (p .messages n) (λ u some. and-yes (not (eqb b 0)) (a .mailboxes b) u .1) (or-yes (a .messages n) (not (eqb b 0) && a .mailboxes b) t)
+
+-- ── Another carrier's rows are not among it ──
+
+module _ (a b : Carrier) (apart : Disjoint a b) where
+  other-object : (w : Wait) → WaitsIn (Own b) w → T (waits-at-object a w) → ⊥
+  other-object NoWait h t = t
+  other-object (Sending q end word) h t = apart (queue q) t h
+  other-object (Receiving q end) h t = apart (queue q) t h
+  other-object (AtMailbox x end) h t = apart (mailbox x) t h
+
+  other : (m : Program.Rows Row) → Placed (Own b) m → (k : Key) → Own b k → T (may-change a m k) → ⊥
+  unfolding QueuedIn
+  other m p (task n) o t = ⊎-elim (λ u. apart (task n) u o) (other-object (m (task n) .wait) (p .tasks n o)) (or-yes (a .tasks n) _ t)
+  other m p (suspension n) o t = apart (suspension n) t o
+  other m p (queue n) o t = apart (queue n) t o
+  other m p (mailbox n) o t = apart (mailbox n) t o
+  other m p (message n) o t =
+      let x = m (message n) .queued-in in
+      ⊎-elim (λ u. apart (message n) u o)
+      (λ u. let h = and-yes (not (eqb x 0)) (a .mailboxes x) u in apart (mailbox x) (h .1) (p .messages n o (h .0)))
+      (or-yes (a .messages n) (not (eqb x 0) && a .mailboxes x) t)
+
+-- ── Calls ──
+
+-- What a call leaves alone, where its names lie in a closed set: the rows outside, the counter. The set stays closed.
+record Spares (S : Key → Type 0) (m n : Model) : Type 0 where
+  rows : (k : Key) → (S k → ⊥) → n .rows k ≡ m .rows k
+  counter : n .environment .counter ≡ m .environment .counter
+
+module _ (S : Key → Type 0) where
+  call-spares : (m : Model) (c : Call) → CallOf S c → Closed NamedIn S (m .rows) → Spares S m (step m c .state) × Closed NamedIn S (step m c .state .rows)
+  unfolding step-of
+  call-spares m c own shut =
+      let inside = in-program S (m .environment) c (own .own-names) in
+      rw (step-call m c (own .no-tick)) (
+        record { rows = outside same-key NamedIn S (λ x. Unit) (program (m .environment) c) (m .rows) inside shut; counter = refl },
+        keeps-closed same-key NamedIn S (λ x. Unit) (program (m .environment) c) (m .rows) inside shut,
+      )
+
+  run-spares : {s last : State} {calls : List Call} {answers : List Answer} → Sound s → Closed NamedIn S (abs s .rows) → Each (CallOf S) calls → Run s calls last answers → Spares S (abs s) (abs last)
+  run-spares sound shut none no-call = record { rows = λ k n. refl; counter = refl }
+  run-spares {s} sound shut (both {x = c} own owns) (one-call h rest) =
+      let f = follows h sound in
+      let k = rw (← f .meaning-is) at (call-spares (abs s) c own shut) in
+      let l = run-spares (f .sound) (k .1) owns rest in
+      record { rows = λ j n. l .rows j n ∙ k .0 .rows j n; counter = l .counter ∙ k .0 .counter }
+
+pub no-foreign-effect : NoForeignEffect
+unfolding abs
+no-foreign-effect s S a placed calls own last answers p =
+    let own-calls : Each (CallOf (MayChange a (abs s .rows))) calls = each-map (λ c o. record { no-tick = o .no-tick; own-names = each-map (λ k g t. own-may-change a (abs s .rows) k (g t)) (o .own-names) }) own in
+    let spares = run-spares (MayChange a (abs s .rows)) S (closed a (abs s .rows) (well-formed-linked (abs s) (S .well-formed)) placed) own-calls p in
+    record {
+      other-rows = λ k n. spares .rows k (T-not (may-change a (abs s .rows) k) n);
+      counter = spares .counter;
+      other-carrier = λ b apart placed-b k o. spares .rows k (other a b apart (abs s .rows) placed-b k o);
+    }

@@ -1,0 +1,69 @@
+-- Demand 3, and document 01, "What demand 3 compares", over records.
+use mathlib.Core.Path.{_≡_}
+use mathlib.Core.Bool.{Bool}
+use mathlib.Core.List.{List, []}
+use Prim.Native.Nat.{ℕ}
+use Rattle.lists.specs.Lists.{Each}
+use Rattle.rows.specs.Merge.{Merge}
+use Rattle.rows.specs.Merges.{share, MergeOf}
+use Rattle.model.specs.Rows.{empty-state}
+use Rattle.model.specs.Isolation.{Placed, CallOf, Carrier, Own, Disjoint, Owners, OwnedBy}
+use Rattle.model.specs.declared.Call.{Call}
+use Rattle.model.specs.declared.Answer.{Answer}
+use Rattle.record.specs.declared.State.{State}
+use Rattle.record.specs.Meaning.{abs}
+use Rattle.record.specs.Sound.{Sound}
+use Rattle.record.specs.Equal.{SameState}
+use Rattle.demands.specs.Runs.{Run, RunOfTurns}
+
+-- The claim about two lists of calls from one record. `Merge turns xs ys zs`: zs holds every call of both lists, each once and in its list's order; the turns say whose call stands at each position.
+pub record Undisturbed (s : State) (xs ys : List Call) : Type 0 where
+  -- In every merge, every call answers as when its list runs alone from s: the merge's answers are the two lists' answers, merged by the same turns.
+  pub answers-alone : {turns : List Bool} {zs : List Call} → Merge turns xs ys zs
+      → {x-last y-last z-last : State} {x-answers y-answers z-answers : List Answer}
+      → Run s xs x-last x-answers → Run s ys y-last y-answers → Run s zs z-last z-answers
+      → Merge turns x-answers y-answers z-answers
+  -- All merges end in equal states.
+  pub one-end : {turns turns′ : List Bool} {zs zs′ : List Call} → Merge turns xs ys zs → Merge turns′ xs ys zs′
+      → {last last′ : State} {answers answers′ : List Answer}
+      → Run s zs last answers → Run s zs′ last′ answers′ → SameState last last′
+  -- The end states are sound.
+  pub end-sound : {turns : List Bool} {zs : List Call} → Merge turns xs ys zs → {last : State} {answers : List Answer} → Run s zs last answers → Sound last
+
+-- From any sound state, two carriers that have no number in common, each one's waiting tasks and queued messages only in its own objects; each with any list of calls, of known number or not,
+-- refused ones too, but no tick, whose valid numbers are its own.
+abbrev pub Isolated : Type 0
+Isolated =
+    (s : State) → Sound s
+    → (a b : Carrier) → Disjoint a b → Placed (Own a) (abs s .rows) → Placed (Own b) (abs s .rows)
+    → (xs ys : List Call) → Each (CallOf (Own a)) xs → Each (CallOf (Own b)) ys
+    → Undisturbed s xs ys
+
+-- The premises can be met: the empty state, which `State::empty` hands out, asks nothing more of the carriers.
+abbrev pub IsolatedFromEmpty : Type 0
+IsolatedFromEmpty =
+    (s : State) → Sound s → (counter : ℕ) → abs s ≡ empty-state counter
+    → (a b : Carrier) → Disjoint a b
+    → (xs ys : List Call) → Each (CallOf (Own a)) xs → Each (CallOf (Own b)) ys
+    → Undisturbed s xs ys
+
+-- ── Any number of carriers ──
+
+-- `MergeOf same-owner lists turns`: the turns, each an owner with a call, hold the owners' lists, each in its own order, and nothing else. `share same-owner i` is what of the turns is owner i's.
+pub record AllUndisturbed {I : Type 0} (same-owner : Discrete I) (s : State) (lists : I → List Call) : Type 0 where
+  pub answers-alone : {turns : List (I × Call)} → MergeOf same-owner lists turns
+      → {last : State} {answers : List (I × Answer)} → RunOfTurns s turns last answers
+      → (i : I) {i-last : State} {i-answers : List Answer} → Run s (lists i) i-last i-answers
+      → share same-owner i answers ≡ i-answers
+  pub one-end : {turns turns′ : List (I × Call)} → MergeOf same-owner lists turns → MergeOf same-owner lists turns′
+      → {last last′ : State} {answers answers′ : List (I × Answer)}
+      → RunOfTurns s turns last answers → RunOfTurns s turns′ last′ answers′ → SameState last last′
+
+-- Each number has one owner. An owner without calls need not be placed.
+abbrev pub IsolatedMany : Type 1
+IsolatedMany =
+    (I : Type 0) (same-owner : Discrete I) (s : State) → Sound s
+    → (o : Owners I) (lists : I → List Call)
+    → ((i : I) → (lists i ≡ [] → ⊥) → Placed (OwnedBy o i) (abs s .rows))
+    → ((i : I) → Each (CallOf (OwnedBy o i)) (lists i))
+    → AllUndisturbed same-owner s lists

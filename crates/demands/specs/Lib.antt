@@ -1,0 +1,7 @@
+-- Runs of records, then demands 1, 2 and 3, then what follows for customers.
+pub mod Runs
+pub mod Handled
+pub mod Conforms
+pub mod Isolated
+pub mod NoLostWakeUp
+pub mod NoForeignEffect

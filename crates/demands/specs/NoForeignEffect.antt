@@ -1,0 +1,49 @@
+-- For customers: a carrier's calls leave alone whatever isn't the carrier's and doesn't stand in its objects.
+use mathlib.Core.Path.{_≡_}
+use mathlib.Core.Bool.{Bool, false, not, _&&_, _||_}
+use mathlib.Core.List.{List}
+use lib.Dec.{T, eqb}
+use Rattle.lists.specs.Lists.{Each}
+use Rattle.rows.specs.Program as Program
+use Rattle.model.specs.Rows.{Key, task, suspension, queue, mailbox, message, Row}
+use Rattle.model.specs.Isolation.{Placed, CallOf, Carrier, Own, Disjoint}
+use Rattle.model.specs.declared.Answer.{Answer}
+use Rattle.model.specs.declared.Call.{Call}
+use Rattle.model.specs.declared.Wait.{Wait}
+use Rattle.model.specs.declared.Wait.the-variants.{NoWait, Sending, Receiving, AtMailbox}
+use Rattle.record.specs.declared.State.{State}
+use Rattle.record.specs.Meaning.{abs}
+use Rattle.record.specs.Sound.{Sound}
+use Rattle.demands.specs.Runs.{Run}
+
+-- Whether a task with this wait waits at one of the carrier's objects.
+abbrev pub waits-at-object : Carrier → Wait → Bool
+waits-at-object a NoWait = false
+waits-at-object a (Sending q end word) = a .queues q
+waits-at-object a (Receiving q end) = a .queues q
+waits-at-object a (AtMailbox b end) = a .mailboxes b
+
+-- The rows that a carrier's calls may change: its own, and those of the tasks and messages that stand in its objects. The suspension of a task that isn't its own is not among them.
+abbrev pub may-change : Carrier → Program.Rows Row → Key → Bool
+may-change a m (task t) = a .tasks t || waits-at-object a (m (task t) .wait)
+may-change a m (suspension t) = a .tasks t
+may-change a m (queue q) = a .queues q
+may-change a m (mailbox b) = a .mailboxes b
+may-change a m (message g) = a .messages g || not (eqb (m (message g) .queued-in) 0) && a .mailboxes (m (message g) .queued-in)
+
+-- The record s became u.
+pub record OwnEffect (a : Carrier) (s u : State) : Type 0 where
+  -- Every other row is as it was, and so is the counter.
+  pub other-rows : (k : Key) → T (not (may-change a (abs s .rows) k)) → abs u .rows k ≡ abs s .rows k
+  pub counter : u .counter ≡ s .counter
+  -- So each row of another carrier, one that has no number in common and whose waiting tasks and queued messages stand only in its own objects, is as it was.
+  pub other-carrier : (b : Carrier) → Disjoint a b → Placed (Own b) (abs s .rows) → (k : Key) → Own b k → abs u .rows k ≡ abs s .rows k
+
+-- Any list of the carrier's calls, or one call.
+abbrev pub NoForeignEffect : Type 0
+NoForeignEffect =
+    (s : State) → Sound s
+    → (a : Carrier) → Placed (Own a) (abs s .rows)
+    → (calls : List Call) → Each (CallOf (Own a)) calls
+    → (last : State) (answers : List Answer) → Run s calls last answers
+    → OwnEffect a s last
