@@ -1,0 +1,104 @@
+use borrow.Author.Needs.{needs}
+use Rattle.kernel.proofs.seen.see.Statement.{statement}
+use Rattle.kernel.proofs.seen.see.Tie as tie
+
+cast-cell-of : tie.Need-cast-cell-of
+cast-cell-of c = search needs
+
+cell-of-requires : tie.Need-cell-of-requires
+cell-of-requires c κs = search needs
+
+mul-calling : tie.Need-mul-calling
+mul-calling c = ?
+
+element-copy-out-calling : tie.Need-element-copy-out-calling
+element-copy-out-calling c = ?
+
+task-named-requires : tie.Need-task-named-requires
+task-named-requires c κs = search needs
+
+cast-cell-of-2 : tie.Need-cast-cell-of-2
+cast-cell-of-2 c = search needs
+
+cell-of-requires-2 : tie.Need-cell-of-requires-2
+cell-of-requires-2 c κs = search needs
+
+mul-named : tie.Need-mul-named
+mul-named c = ?
+
+element-copy-out-named : tie.Need-element-copy-out-named
+element-copy-out-named c = ?
+
+queue-named-requires : tie.Need-queue-named-requires
+queue-named-requires c κs = search needs
+
+cell-of-requires-3 : tie.Need-cell-of-requires-3
+cell-of-requires-3 c κs = search needs
+
+mul-queue : tie.Need-mul-queue
+mul-queue c = ?
+
+element-copy-out-queue : tie.Need-element-copy-out-queue
+element-copy-out-queue c = ?
+
+mailbox-named-requires : tie.Need-mailbox-named-requires
+mailbox-named-requires c κs = search needs
+
+cell-of-requires-4 : tie.Need-cell-of-requires-4
+cell-of-requires-4 c κs = search needs
+
+mul-mailbox : tie.Need-mul-mailbox
+mul-mailbox c = ?
+
+element-copy-out-mailbox : tie.Need-element-copy-out-mailbox
+element-copy-out-mailbox c = ?
+
+see-task-requires : tie.Need-see-task-requires
+see-task-requires c κs = search needs
+
+see-task-requires-2 : tie.Need-see-task-requires-2
+see-task-requires-2 c κs = search needs
+
+see-queue-requires : tie.Need-see-queue-requires
+see-queue-requires c κs = search needs
+
+see-mailbox-requires : tie.Need-see-mailbox-requires
+see-mailbox-requires c κs = search needs
+
+message-named-requires : tie.Need-message-named-requires
+message-named-requires c κs = search needs
+
+see-message-requires : tie.Need-see-message-requires
+see-message-requires c κs = ?
+
+returns : tie.Need-returns
+returns c = ?
+
+pub see-spec : {M : Type 1} → statement M
+see-spec =
+    tie.close
+    (tie.spec
+    cast-cell-of
+    cell-of-requires
+    mul-calling
+    element-copy-out-calling
+    task-named-requires
+    cast-cell-of-2
+    cell-of-requires-2
+    mul-named
+    element-copy-out-named
+    queue-named-requires
+    cell-of-requires-3
+    mul-queue
+    element-copy-out-queue
+    mailbox-named-requires
+    cell-of-requires-4
+    mul-mailbox
+    element-copy-out-mailbox
+    see-task-requires
+    see-task-requires-2
+    see-queue-requires
+    see-mailbox-requires
+    message-named-requires
+    see-message-requires
+    returns)
