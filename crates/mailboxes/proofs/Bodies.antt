@@ -3,7 +3,7 @@ use mathlib.Core.Path.{_≡_, refl, sym, ap, _∙_, subst}
 use mathlib.Core.Bool.{Bool, true, false, not, cond, _||_}
 use mathlib.Core.List.{List, [], _∷_, map, headD, List·Memᴰ as In}
 use mathlib.Core.Logic.{_≢_}
-use Prim.Native.Nat.{ℕ, _+_, _<_, _≤_}
+use Prim.Native.Nat.{ℕ, _+_, _≤_}
 use native.Mathlib.Omega.{arith}
 use lib.Dec.{T, eqb}
 use lib.ListN.{length, getD, set, length-set, length-map}
@@ -14,7 +14,7 @@ use Rattle.rows.specs.Program.{update, run}
 use Rattle.rows.proofs.Run.{run-yes, run-no}
 use Rattle.chain.specs.Table.{lists, chain-of, keys-of}
 use Rattle.chain.specs.Changes.{HasChain, Insertable, Inserted, Popped}
-use Rattle.chain.proofs.Laws.{list-range, inserted-place, keys-of-free}
+use Rattle.chain.proofs.Laws.{list-range, keys-of-free}
 use Rattle.model.specs.Sizes.{mailbox-limit, message-limit, priority-limit}
 use Rattle.model.specs.Rows.{task, mailbox, message, same-key, valid, MailboxRow, MessageRow, Effect, waiters-by-priority, messages-by-priority}
 use Rattle.model.specs.Codes.{finished}
@@ -185,9 +185,6 @@ module _ {s : State} {b g priority : ℕ} (a : Queueable s b g priority) where
 
     module _ {rank limit n : ℕ} {link : List ℕ} (rank-is : rank ≡ cond ranked priority 0) (limit-is : limit ≡ cond ranked rank 255)
         (p : Inserted message-limit message-chains b g limit (s .messages .link) (set (s .messages .key) g rank) link n) where
-      pub queue-place-fits : n < message-limit
-      queue-place-fits = inserted-place p (on-messages (a .on))
-
       abbrev keys : List ℕ
       keys = map (λ j. abs s .rows (message j) .priority) (mailbox-in s b .messages)
 

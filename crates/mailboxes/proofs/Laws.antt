@@ -50,7 +50,7 @@ two-rows s r k j v w valid-k valid-j new-k new-j old =
 
 -- ── The record's messages ──
 
--- A message that stands where it stood, with the key that it had, at a mailbox with the attribute that it had, has the row that it had.
+-- A message that stands where it stood, with the key that it had, has the row that it had. One that stands nowhere is free.
 module _ (mailboxes : List Mailbox) (key : List ℕ) (link link' : List ℕ) (g : ℕ) where
   same-message : (key' : List ℕ) → mailbox-of link' g ≡ mailbox-of link g → getD key' g 0 ≡ getD key g 0 → message-row link' key' mailboxes g ≡ message-row link key mailboxes g
   same-message key' e f = rw (e, f) refl
@@ -84,7 +84,7 @@ module _ {s : State} (R : Readable s) (b : ℕ) (ok : T (valid (mailbox b))) whe
       rings = R .rings;
     }
 
-    -- The mailbox's row, and the rows of all numbers but it and the messages.
+    -- The mailbox's row, and the rows of the other mailboxes.
     mailbox-changed : cells-of changed (mailbox b) ≡ with-messages l (abs s .rows (mailbox b))
     mailbox-changed = rw (row-is s (mailbox b) ok, own) refl
 

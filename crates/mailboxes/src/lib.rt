@@ -41,7 +41,8 @@ fn ranks_messages(attribute: u8) -> bool
     (attribute == 2) | (attribute == 3)
 }
 
-// A message priority is kept where messages go by priority, and is a small number there. Elsewhere it is any number, and not kept.
+// A message priority, or a mailbox's highest, as it is kept: only where messages go by priority, and there it is 16 at most. Elsewhere a call
+// may name any number, and 0 is kept.
 fn kept(ranked: bool, priority: u32) -> u8
     requires { ⌜ (T ranked → priority ≤ 16) ⌝ }
     ensures { λ r. ⌜ r ≡ cond ranked priority 0 ⌝ }
@@ -52,7 +53,7 @@ fn kept(ranked: bool, priority: u32) -> u8
     0
 }
 
-// The head waiter gets the message.
+// The head waiter gets the message, which stays free.
 fn deliver_message(state: State, b: u8, g: u32) -> Step
     requires { ⌜ Deliverable state b ⌝ }
     ensures { λ r. ⌜ Does (deliver-message b (mailbox-in state b) g) state r ⌝ }
@@ -62,7 +63,7 @@ fn deliver_message(state: State, b: u8, g: u32) -> Step
     Step { state, answer }
 }
 
-// The message is queued. The answer has its place.
+// The message is queued, behind all or by its priority. The answer has its place.
 fn queue_message(mut state: State, b: u8, g: u8, priority: u32) -> Step
     requires { ⌜ Queueable state b g priority ⌝ }
     ensures { λ r. ⌜ Does (queue-message b (mailbox-in state b) g priority) state r ⌝ }
@@ -91,7 +92,7 @@ fn queue_message(mut state: State, b: u8, g: u8, priority: u32) -> Step
     Step { state, answer }
 }
 
-// The head message is received.
+// The head message leaves its mailbox, and is the answer.
 fn take_message(mut state: State, b: u8) -> Step
     requires { ⌜ Takeable state b ⌝ }
     ensures { λ r. ⌜ Does (take-message b (mailbox-in state b)) state r ⌝ }
@@ -115,7 +116,7 @@ fn wait_for_message(state: State, b: u8, me: u8, end: End) -> Step
     waits::join(state, WAITERS + i, me, ranked, wait)
 }
 
-// The head message is received. With none queued, the task waits until this end.
+// The head message, or a wait until this end.
 fn receive_until(state: State, b: u8, me: u8, end: End) -> Step
     requires { ⌜ Waitable state b me ⌝ }
     ensures { λ r. ⌜ Does (receive-message b (mailbox-in state b) (wait-for-message b (mailbox-in state b) me (abs state .rows (task me)) end)) state r ⌝ }
@@ -166,7 +167,7 @@ impl Mailboxes {
         Step { state, answer }
     }
 
-    // 14
+    // 14: to the head waiter, or into the queue.
     pub fn snd_mbx(self, call: Call) -> Step
         requires { ⌜ Accepted 14 (self .state) call ⌝ }
         ensures { λ r. ⌜ Performs snd-mbx (self .state) call r ⌝ }
@@ -185,7 +186,7 @@ impl Mailboxes {
         queue_message(state, b, call.value as u8, call.attribute)
     }
 
-    // 15
+    // 15: waits for ever.
     pub fn rcv_mbx(self, call: Call) -> Step
         requires { ⌜ Accepted 15 (self .state) call ⌝ }
         ensures { λ r. ⌜ Performs rcv-mbx (self .state) call r ⌝ }
@@ -203,7 +204,7 @@ impl Mailboxes {
         take_message(state, call.object)
     }
 
-    // 17
+    // 17: waits for the tmout.
     pub fn trcv_mbx(self, call: Call) -> Step
         requires { ⌜ Accepted 17 (self .state) call ⌝ }
         ensures { λ r. ⌜ Performs trcv-mbx (self .state) call r ⌝ }

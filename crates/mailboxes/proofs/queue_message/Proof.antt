@@ -1,7 +1,8 @@
 -- `queue_message` does what its program does: the chain's insert is the program's two puts, and the message's key its priority.
 use native.Mathlib.Omega.{arith}
 use borrow.Author.Needs.{needs}
-use Rattle.mailboxes.proofs.Bodies.{number-range, message-range, rank-fits, queue-insertable, queue-place-fits, queued}
+use Rattle.chain.proofs.Laws.{inserted-place}
+use Rattle.mailboxes.proofs.Bodies.{number-range, on-messages, message-range, rank-fits, queue-insertable, queued}
 use Rattle.mailboxes.proofs.queue_message.Statement.{statement}
 use Rattle.mailboxes.proofs.queue_message.Tie as tie
 
@@ -28,9 +29,8 @@ insert-requires c κs = queue-insertable (c .before .before .before .before .bef
 
 cast-finished : tie.Need-cast-finished
 cast-finished c =
-    let limited = c .before .before .before .before .before in
-    let ranked = limited .before .before in
-    let h = queue-place-fits (ranked .before .before .pre) (ranked .ranks-messages .ensures) (limited .before .kept .ensures) (limited .limit .ensures) (c .insert .ensures) in
+    let start = c .before .before .before .before .before .before .before .before .before in
+    let h = inserted-place (c .insert .ensures) (on-messages (start .pre .on)) in
     omega arith
 
 finished-requires : tie.Need-finished-requires
