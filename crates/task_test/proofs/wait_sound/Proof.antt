@@ -3,10 +3,10 @@ use mathlib.Core.Path.{refl}
 use native.Mathlib.Omega.{arith}
 use borrow.Author.Needs.{needs}
 use Rattle.lists.proofs.Tests.{is-eqb}
 use Rattle.parts.proofs.Stops.{stops, goes-on}
-use Rattle.parts.proofs.Tasks.{waits-at, waits-not}
-use Rattle.parts.proofs.wait_sound.Statement.{statement}
-use Rattle.parts.proofs.wait_sound.Tie as tie
+use Rattle.task_test.proofs.Tasks.{waits-at, waits-not}
+use Rattle.task_test.proofs.wait_sound.Statement.{statement}
+use Rattle.task_test.proofs.wait_sound.Tie as tie
 
 enum-told : tie.Need-enum-told
 enum-told c = search needs

@@ -1,10 +1,10 @@
 -- `mailbox_sound` is exact: its tests are, and they say what `MailboxSound` says of a defined mailbox, and of an undefined one.
 use borrow.Author.Needs.{needs}
 use Rattle.lists.proofs.Tests.{is-and, is-or, is-eqb}
 use Rattle.parts.proofs.Stops.{stops, goes-on}
-use Rattle.parts.proofs.Mailboxes.{defined-mailbox, undefined-mailbox}
-use Rattle.parts.proofs.mailbox_sound.Statement.{statement}
-use Rattle.parts.proofs.mailbox_sound.Tie as tie
+use Rattle.object_test.proofs.Mailboxes.{defined-mailbox, undefined-mailbox}
+use Rattle.object_test.proofs.mailbox_sound.Statement.{statement}
+use Rattle.object_test.proofs.mailbox_sound.Tie as tie
 
 add-waiters : tie.Need-add-waiters
 add-waiters c = search needs

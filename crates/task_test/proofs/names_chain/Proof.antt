@@ -1,8 +1,8 @@
 -- `names_chain` is exact: its tests are, and they say what `NamesChain` says.
 use borrow.Author.Needs.{needs}
 use Rattle.lists.proofs.Tests.{is-map, is-and, is-leb, is-eqb}
-use Rattle.parts.proofs.names_chain.Statement.{statement}
-use Rattle.parts.proofs.names_chain.Tie as tie
+use Rattle.task_test.proofs.names_chain.Statement.{statement}
+use Rattle.task_test.proofs.names_chain.Tie as tie
 
 add-result : tie.Need-add-result
 add-result c = search needs

@@ -3,8 +3,8 @@ use mathlib.Core.Logic.{inl, inr, ⊎-elim}
 use native.Mathlib.Omega.{arith}
 use Rattle.lists.specs.Tests.{holds}
 use Rattle.lists.proofs.Tests.{is-map, is-and, is-leb}
-use Rattle.parts.proofs.mailbox_numbers_sound.Statement.{statement}
-use Rattle.parts.proofs.mailbox_numbers_sound.Tie as tie
+use Rattle.object_test.proofs.mailbox_numbers_sound.Statement.{statement}
+use Rattle.object_test.proofs.mailbox_numbers_sound.Tie as tie
 
 returns : tie.Need-returns
 returns c = let below = c .if1 .taken in holds (record { attribute-in-range = omega arith; highest-in-range = inl below })

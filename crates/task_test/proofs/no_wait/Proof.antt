@@ -2,9 +2,9 @@
 use mathlib.Core.Path.{refl}
 use borrow.Author.Needs.{needs}
 use Rattle.lists.specs.Tests.{holds}
-use Rattle.parts.proofs.Tasks.{not-waiting}
-use Rattle.parts.proofs.no_wait.Statement.{statement}
-use Rattle.parts.proofs.no_wait.Tie as tie
+use Rattle.task_test.proofs.Tasks.{not-waiting}
+use Rattle.task_test.proofs.no_wait.Statement.{statement}
+use Rattle.task_test.proofs.no_wait.Tie as tie
 
 enum-told : tie.Need-enum-told
 enum-told c = search needs

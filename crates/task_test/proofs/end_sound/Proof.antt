@@ -2,9 +2,9 @@
 use native.Mathlib.Omega.{arith}
 use borrow.Author.Needs.{needs}
 use Rattle.lists.proofs.Tests.{is-and, is-leb}
-use Rattle.parts.proofs.Tasks.{never-ends, ends-at}
-use Rattle.parts.proofs.end_sound.Statement.{statement}
-use Rattle.parts.proofs.end_sound.Tie as tie
+use Rattle.task_test.proofs.Tasks.{never-ends, ends-at}
+use Rattle.task_test.proofs.end_sound.Statement.{statement}
+use Rattle.task_test.proofs.end_sound.Tie as tie
 
 enum-told : tie.Need-enum-told
 enum-told c = search needs

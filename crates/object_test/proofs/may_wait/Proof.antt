@@ -1,8 +1,8 @@
 -- `may_wait` is exact: by whether there is a sender its tests say what `MayWait` says.
 use mathlib.Core.Logic.{inl, inr, ⊎-elim}
 use Rattle.lists.proofs.Tests.{is-map, is-and, is-or, is-eqb}
-use Rattle.parts.proofs.may_wait.Statement.{statement}
-use Rattle.parts.proofs.may_wait.Tie as tie
+use Rattle.object_test.proofs.may_wait.Statement.{statement}
+use Rattle.object_test.proofs.may_wait.Tie as tie
 
 returns : tie.Need-returns
 returns c =

@@ -1,10 +1,10 @@
 -- `queue_sound` is exact: its tests are, and they say what `QueueSound` says of a defined queue, and of an undefined one.
 use borrow.Author.Needs.{needs}
 use Rattle.lists.proofs.Tests.{is-and, is-leb, is-eqb}
 use Rattle.parts.proofs.Stops.{stops, goes-on}
-use Rattle.parts.proofs.Queues.{defined-queue, undefined-queue}
-use Rattle.parts.proofs.queue_sound.Statement.{statement}
-use Rattle.parts.proofs.queue_sound.Tie as tie
+use Rattle.object_test.proofs.Queues.{defined-queue, undefined-queue}
+use Rattle.object_test.proofs.queue_sound.Statement.{statement}
+use Rattle.object_test.proofs.queue_sound.Tie as tie
 
 first-requires : tie.Need-first-requires
 first-requires c κs = search needs

@@ -1,8 +1,8 @@
 -- `in_order_if` is exact: where the order is wanted it is `chain::in_order`, and else nothing is asked.
 use borrow.Author.Needs.{needs}
 use Rattle.lists.proofs.Tests.{is-if-met, is-if-unmet}
-use Rattle.parts.proofs.in_order_if.Statement.{statement}
-use Rattle.parts.proofs.in_order_if.Tie as tie
+use Rattle.object_test.proofs.in_order_if.Statement.{statement}
+use Rattle.object_test.proofs.in_order_if.Tie as tie
 
 in-order-requires : tie.Need-in-order-requires
 in-order-requires c κs = search needs

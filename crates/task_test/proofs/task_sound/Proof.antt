@@ -1,10 +1,10 @@
 -- `task_sound` is exact: its tests are, and they say what `TaskSound` says of a defined task, and of an undefined one.
 use borrow.Author.Needs.{needs}
 use Rattle.lists.proofs.Tests.{is-and, is-leb, is-eqb, is-T, is-not}
 use Rattle.parts.proofs.Stops.{stops, goes-on}
-use Rattle.parts.proofs.Tasks.{defined-task, undefined-task}
-use Rattle.parts.proofs.task_sound.Statement.{statement}
-use Rattle.parts.proofs.task_sound.Tie as tie
+use Rattle.task_test.proofs.Tasks.{defined-task, undefined-task}
+use Rattle.task_test.proofs.task_sound.Statement.{statement}
+use Rattle.task_test.proofs.task_sound.Tie as tie
 
 code-sound-requires : tie.Need-code-sound-requires
 code-sound-requires c κs = search needs
