@@ -59,5 +59,5 @@ pub extern "C" fn linguastel_sound(
     requires { ⌜ Room numbers chains (now link) × (now standing ≡ replicate key-cells 0) ⌝ }
     ensures { λ r. ⌜ Tested numbers chains (now (link .entry)) (now (standing .exit)) r ⌝ }
 {
-    chain::sound(link, numbers, chains, standing)
+    chain_test::sound(link, numbers, chains, standing)
 }

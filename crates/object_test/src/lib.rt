@@ -35,7 +35,7 @@ fn in_order_if<'a>(
     ensures { λ r. ⌜ Whether (T wanted → InOrder 1 most (keys-of (now (key .entry)) (getD (lists numbers chains (now (link .entry))) chain []))) r ⌝ }
 {
     if wanted {
-        return chain::in_order(link, key, numbers, chains, chain, 1, most);
+        return chain_test::in_order(link, key, numbers, chains, chain, 1, most);
     }
     true
 }

@@ -106,11 +106,11 @@ impl State {
         ensures { λ r. ⌜ Whether (Sound self) r ⌝ }
     {
         let mut standing = [0u8; KEY_CELLS];
-        if !chain::sound(&self.waiting.link, TASKS, TASK_CHAINS, &mut standing) {
+        if !chain_test::sound(&self.waiting.link, TASKS, TASK_CHAINS, &mut standing) {
             return false;
         }
         let mut queued = [0u8; KEY_CELLS];
-        if !chain::sound(&self.messages.link, MESSAGES, MESSAGE_CHAINS, &mut queued) {
+        if !chain_test::sound(&self.messages.link, MESSAGES, MESSAGE_CHAINS, &mut queued) {
             return false;
         }
         let counter = self.counter;

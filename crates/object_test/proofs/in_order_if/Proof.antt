@@ -1,4 +1,4 @@
--- `in_order_if` is exact: where the order is wanted it is `chain::in_order`, and else nothing is asked.
+-- `in_order_if` is exact: where the order is wanted it is `chain_test::in_order`, and else nothing is asked.
 use borrow.Author.Needs.{needs}
 use Rattle.lists.proofs.Tests.{is-if-met, is-if-unmet}
 use Rattle.object_test.proofs.in_order_if.Statement.{statement}

@@ -2,8 +2,8 @@
 use native.Mathlib.Omega.{arith}
 use Rattle.lists.specs.Tests.{fails}
 use Rattle.lists.proofs.Tests.{is-map, is-eqb, is-and}
-use Rattle.chain.proofs.four_empty.Statement.{statement}
-use Rattle.chain.proofs.four_empty.Tie as tie
+use Rattle.chain_test.proofs.four_empty.Statement.{statement}
+use Rattle.chain_test.proofs.four_empty.Tie as tie
 
 add-if1 : tie.Need-add-if1
 add-if1 c = let h = c .pre .0 .heads-fit in omega arith

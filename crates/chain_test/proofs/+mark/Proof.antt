@@ -1,16 +1,16 @@
 -- `mark` is exact: it stops where no chain of unmarked numbers can stand, and else goes on from the next cell, with one number less to follow.
 use mathlib.Core.Path.{sym}
 use native.Mathlib.Omega.{arith}
-use Rattle.chain.proofs.Marks.{mark-end, mark-long, mark-beyond, mark-met, marking-on, mark-on}
+use Rattle.chain_test.proofs.Marks.{mark-end, mark-long, mark-beyond, mark-met, marking-on, mark-on}
 use Prim.Native.Nat.{ℕ, _<_}
 use borrow.Fn.Kinds.{In}
 use borrow.Fn.PlainCycle.{Measures, is, falls, and}
-use Rattle.chain.proofs.mark.Reads as own
-use Rattle.chain.proofs.mark.Kinds as kinds
-use Rattle.chain.proofs.+mark.Lts-mark as lts
-use Rattle.chain.proofs.wide.Reads as wide
-use Rattle.chain.proofs.+mark.{statement}
-use Rattle.chain.proofs.+mark.Tie.{close}
+use Rattle.chain_test.proofs.mark.Reads as own
+use Rattle.chain_test.proofs.mark.Kinds as kinds
+use Rattle.chain_test.proofs.+mark.Lts-mark as lts
+use Rattle.chain_test.proofs.wide.Reads as wide
+use Rattle.chain_test.proofs.+mark.{statement}
+use Rattle.chain_test.proofs.+mark.Tie.{close}
 
 abbrev measure : Measures 2 kinds.ps ℕ
 measure κs a = a .1 .1 .1 .1 .1 .0

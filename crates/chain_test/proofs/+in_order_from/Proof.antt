@@ -2,17 +2,18 @@
 use mathlib.Core.Path.{sym}
 use native.Mathlib.Omega.{arith}
 use lib.ListN.{length}
 use Rattle.chain.specs.Table.{follow}
-use Rattle.chain.proofs.Walks.{has-key, walk-on, shorter, order-end, order-low, order-high, order-on}
+use Rattle.chain.proofs.Walks.{has-key, walk-on, shorter}
+use Rattle.chain_test.proofs.Order.{order-end, order-low, order-high, order-on}
 use Prim.Native.Nat.{ℕ, _<_}
 use borrow.Fn.Kinds.{In}
 use borrow.Fn.PlainCycle.{Measures, is, falls, and}
-use Rattle.chain.proofs.in_order_from.Reads as own
-use Rattle.chain.proofs.in_order_from.Kinds as kinds
-use Rattle.chain.proofs.+in_order_from.Lts-in_order_from as lts
-use Rattle.chain.proofs.wide.Reads as wide
-use Rattle.chain.proofs.+in_order_from.{statement}
-use Rattle.chain.proofs.+in_order_from.Tie.{close}
+use Rattle.chain_test.proofs.in_order_from.Reads as own
+use Rattle.chain_test.proofs.in_order_from.Kinds as kinds
+use Rattle.chain_test.proofs.+in_order_from.Lts-in_order_from as lts
+use Rattle.chain_test.proofs.wide.Reads as wide
+use Rattle.chain_test.proofs.+in_order_from.{statement}
+use Rattle.chain_test.proofs.+in_order_from.Tie.{close}
 
 abbrev measure : Measures 1 kinds.ps ℕ
 measure κs a = length (follow (a .1 .1 .0) (a .0 .now) (a .1 .1 .1 .0))

@@ -1,8 +1,8 @@
 -- `in_order` is the test from the head's cell, behind which the list stands.
 use native.Mathlib.Omega.{arith}
 use Rattle.chain.proofs.Changes.{head-fits, walk-from-head, list-is}
-use Rattle.chain.proofs.in_order.Statement.{statement}
-use Rattle.chain.proofs.in_order.Tie as tie
+use Rattle.chain_test.proofs.in_order.Statement.{statement}
+use Rattle.chain_test.proofs.in_order.Tie as tie
 
 add-in-order-from : tie.Need-add-in-order-from
 add-in-order-from c = let h = head-fits (c .pre .0) in omega arith

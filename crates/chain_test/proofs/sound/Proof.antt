@@ -4,9 +4,9 @@ use mathlib.Core.Path.{_≡_}
 use native.Mathlib.Omega.{arith}
 use borrow.Author.Tests.{not-true, not-false}
 use Rattle.lists.proofs.Tests.{passed-test}
-use Rattle.chain.proofs.Marks.{MarkedBelow, marked-below-none, marked-below-more, marked-below-four, tested-true, tested-false}
-use Rattle.chain.proofs.sound.Statement.{statement}
-use Rattle.chain.proofs.sound.Tie as tie
+use Rattle.chain_test.proofs.Marks.{MarkedBelow, marked-below-none, marked-below-more, marked-below-four, tested-true, tested-false}
+use Rattle.chain_test.proofs.sound.Statement.{statement}
+use Rattle.chain_test.proofs.sound.Tie as tie
 
 abbrev Inv-loop : tie.InvT-loop
 Inv-loop link numbers chains standing₀ chain₀ standing chain = (0 < chain) × (chain ≤ chains + 1) × MarkedBelow numbers chain link standing
