@@ -1,4 +1,4 @@
-// The functions on chains for a program in another language that measures them. Each is the crate chain's own, with the same contract.
+// The functions on chains for a program in another language that measures them. Each is that of the crate chain, or chain_test, with the same contract.
 ghost use mathlib.Core.Path.{_≡_};
 ghost use lib.ListN.{replicate};
 ghost use Rattle.chain.specs.Table.{key-cells, lists, chain-of, Room};

@@ -1,5 +1,5 @@
-// Calls each public function of the crates chain and ring and prints what it gives: two chains of waiting tasks, a chain of messages, a
-// ring of words.
+// Calls each public function of the crates chain, chain_test and ring and prints what it gives: two chains of waiting tasks, a chain of
+// messages, a ring of words.
 ghost use mathlib.Core.Path.{_≡_};
 ghost use Prim.Native.Nat.{_+_, _<_, _≤_};
 ghost use lib.ListN.{length, getD, set};
