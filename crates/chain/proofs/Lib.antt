@@ -7,5 +7,4 @@ pub mod Walks
 pub mod Standing
 pub mod Changes
 pub mod Search
-pub mod Marks
 pub mod Laws

@@ -9,10 +9,7 @@ use native.Mathlib.Omega.{arith}
 use lib.ListN.{length, getD, drop, length-drop}
 use lib.Seq.{getD-drop, drop-drop}
 use borrow.Author.Tests.{leb-true, leb-false, lt-leb, le-leb, eq-eqb, ne-eqb}
-use Rattle.lists.specs.Lists.{ahead, passed, InOrder, no-key, next-key}
-use Rattle.lists.specs.Tests.{Whether, holds, fails}
-use Rattle.lists.proofs.Tests.{is-map}
-use Rattle.lists.proofs.Order.{in-order-least, in-order-most, in-order-rest}
+use Rattle.lists.specs.Lists.{ahead, passed}
 use Rattle.chain.specs.Table.{key-cells, every-key, follow, keys-of}
 use Rattle.chain.specs.Walks.{Walk, Reached, Passes, Sought, Found}
 use Rattle.chain.proofs.Chain.{short, at-end, leads}
@@ -170,23 +167,3 @@ module _ {n head t : ℕ} {s : List ℕ} {at place next : ℕ} (k : Finding n he
 
     pub finding-next : {next' : ℕ} → next ≢ t → getD s next 0 ≡ next' → Finding n head t s next (place + 1) next'
     finding-next h = counting-next k f (ahead-more t next (follow n s next) h)
-
--- The test of order, one step from a cell.
-module _ {n cell : ℕ} {s : List ℕ} (w : Walk n cell s) {next : ℕ} (e : getD s cell 0 ≡ next) (key : List ℕ) (least most : ℕ) where
-  pub order-end : next ≡ 0 → Whether (InOrder least most (keys-of key (follow n s cell))) true
-  unfolding keys-of
-  order-end z = rw (stops w e z) (holds no-key)
-
-  module _ (f : next ≢ 0) where
-    pub order-low : getD key next 0 < least → Whether (InOrder least most (keys-of key (follow n s cell))) false
-    unfolding keys-of
-    order-low h = rw (splits w e f) (fails (λ o. let b = in-order-least o in omega arith))
-
-    pub order-high : most < getD key next 0 → Whether (InOrder least most (keys-of key (follow n s cell))) false
-    unfolding keys-of
-    order-high h = rw (splits w e f) (fails (λ o. let b = in-order-most o in omega arith))
-
-    pub order-on : {answer : Bool} → least ≤ getD key next 0 → getD key next 0 ≤ most
-        → Whether (InOrder (getD key next 0) most (keys-of key (follow n s next))) answer → Whether (InOrder least most (keys-of key (follow n s cell))) answer
-    unfolding keys-of
-    order-on a b i = rw (splits w e f) (is-map (λ o. next-key a b o) in-order-rest i)

@@ -1,4 +1,4 @@
--- What the walks along a chain ask and find. No caller of the crate sees these: they speak of cells, which are s.
+-- What the walks along a chain ask and find. No caller of chain or chain_test sees these: they speak of cells, which are s.
 use mathlib.Core.Path.{_≡_}
 use mathlib.Core.Bool.{Bool, true, false}
 use mathlib.Core.List.{List, [], _∷_, List·Memᴰ as In}

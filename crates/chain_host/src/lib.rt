@@ -1,4 +1,4 @@
-// The functions on chains for a program in another language that measures them. Each is the crate chain's own, with the same contract.
+// The functions on chains for a program in another language that measures them. Each is that of the crate chain, or chain_test, with the same contract.
 ghost use mathlib.Core.Path.{_≡_};
 ghost use lib.ListN.{replicate};
 ghost use Rattle.chain.specs.Table.{key-cells, lists, chain-of, Room};
@@ -59,5 +59,5 @@ pub extern "C" fn linguastel_sound(
     requires { ⌜ Room numbers chains (now link) × (now standing ≡ replicate key-cells 0) ⌝ }
     ensures { λ r. ⌜ Tested numbers chains (now (link .entry)) (now (standing .exit)) r ⌝ }
 {
-    chain::sound(link, numbers, chains, standing)
+    chain_test::sound(link, numbers, chains, standing)
 }

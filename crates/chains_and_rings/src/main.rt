@@ -1,5 +1,5 @@
-// Calls each public function of the crates chain and ring and prints what it gives: two chains of waiting tasks, a chain of messages, a
-// ring of words.
+// Calls each public function of the crates chain, chain_test and ring and prints what it gives: two chains of waiting tasks, a chain of
+// messages, a ring of words.
 ghost use mathlib.Core.Path.{_≡_};
 ghost use Prim.Native.Nat.{_+_, _<_, _≤_};
 ghost use lib.ListN.{length, getD, set};
@@ -161,7 +161,7 @@ fn print_order<'a>(link: &'a [u8; CELLS], key: &'a [u8; KEY_CELLS], chain: usize
     print(b"  chain ");
     print_number(chain as u64);
     print(b" is in order of priority: ");
-    print_answer(chain::in_order(link, key, TASKS, TASK_CHAINS, chain, 0, EVERY_KEY));
+    print_answer(chain_test::in_order(link, key, TASKS, TASK_CHAINS, chain, 0, EVERY_KEY));
 }
 
 // Prints which chain a task stands in.
@@ -206,7 +206,7 @@ fn print_soundness(link: &[u8; CELLS])
     requires { ⌜ length (now link) ≡ cells ⌝ }
 {
     let mut standing = [0u8; KEY_CELLS];
-    print_answer(chain::sound(link, TASKS, TASK_CHAINS, &mut standing));
+    print_answer(chain_test::sound(link, TASKS, TASK_CHAINS, &mut standing));
 }
 
 // A copy of a table with another number in one cell. Only test data is made so: no other function here looks into a cell.

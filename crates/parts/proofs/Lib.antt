@@ -1,6 +1,3 @@
--- First what several tests share, then each kind of part.
+-- What the tests of parts, and the calls, share.
 pub mod Stops
-pub mod Tasks
 pub mod Empty
-pub mod Queues
-pub mod Mailboxes

@@ -106,11 +106,11 @@ impl State {
         ensures { λ r. ⌜ Whether (Sound self) r ⌝ }
     {
         let mut standing = [0u8; KEY_CELLS];
-        if !chain::sound(&self.waiting.link, TASKS, TASK_CHAINS, &mut standing) {
+        if !chain_test::sound(&self.waiting.link, TASKS, TASK_CHAINS, &mut standing) {
             return false;
         }
         let mut queued = [0u8; KEY_CELLS];
-        if !chain::sound(&self.messages.link, MESSAGES, MESSAGE_CHAINS, &mut queued) {
+        if !chain_test::sound(&self.messages.link, MESSAGES, MESSAGE_CHAINS, &mut queued) {
             return false;
         }
         let counter = self.counter;
@@ -118,7 +118,7 @@ impl State {
         while t < TASK_CELLS {
             let task = self.tasks[t];
             let priority = key_of(&self.waiting.key, t);
-            if !parts::task_sound(task, priority, standing[t], counter) {
+            if !task_test::task_sound(task, priority, standing[t], counter) {
                 return false;
             }
             t += 1;
@@ -126,11 +126,11 @@ impl State {
         let mut n: usize = 1;
         while n < OBJECT_CELLS {
             let queue = self.queues[n];
-            if !parts::queue_sound(queue, &self.waiting.link, &self.waiting.key, n) {
+            if !object_test::queue_sound(queue, &self.waiting.link, &self.waiting.key, n) {
                 return false;
             }
             let mailbox = self.mailboxes[n];
-            if !parts::mailbox_sound(
+            if !object_test::mailbox_sound(
                 mailbox,
                 &self.waiting.link,
                 &self.waiting.key,
