@@ -33,21 +33,16 @@ use Rattle.model.proofs.Standing.{put-twice}
 use Rattle.model.proofs.Tests.{from-within}
 use Rattle.parts.specs.Queues.{queue-row}
 use Rattle.parts.specs.declared.Queue.{Queue}
+use Rattle.parts.proofs.Empty.{count-zero}
 use Rattle.record.specs.declared.State.{State}
 use Rattle.record.specs.declared.Step.{Step}
 use Rattle.record.specs.Meaning.{queue-at, task-at, abs}
 use Rattle.record.specs.Step.{Becomes, Does}
-use Rattle.record.proofs.Rows.{row-is}
-use Rattle.record.proofs.Laws.{does-as, with-queue, queue-changed, and-then, meaning}
+use Rattle.record.proofs.Rows.{yes-not-not, row-is}
+use Rattle.record.proofs.Laws.{with-queue, queue-changed, and-then, meaning, does-rest}
 use Rattle.waits.proofs.Laws.{rows-of, chain-of-queue, nobody-waits, someone-waits, waiter-valid}
 use Rattle.waits.specs.Waiting.{chain-list, OnChain, ChainOf, Released, Joined, place-in, joined, released}
 use Rattle.data_queues.specs.Bodies.{AtQueue}
-
--- An empty list isn't one with something in it.
-not-some : (l : List ℕ) → T (empty l) → T (not (not (empty l)))
-unfolding empty
-not-some [] t = tt
-not-some (x ∷ l) t = t
 
 -- ── A data queue that is defined ──
 
@@ -230,11 +225,7 @@ module _ {s : State} {q : ℕ} (a : AtQueue s q) where
 
   pub nothing-stored : length (stored (cell .ring)) ≡ 0 → T (empty (x .words))
   unfolding empty
-  nothing-stored e = rw words-are (go (stored (cell .ring)) e)
-    where
-      go : (l : List ℕ) → length l ≡ 0 → T (empty l)
-      go [] e = tt
-      go (y ∷ l) e = absurd (omega arith)
+  nothing-stored e = rw (words-are, count-zero (stored (cell .ring)) e .then-empty refl) tt
 
   -- A popped ring has room.
   pub room-again : {word : ℕ} {r : Ring} → Popped (cell .ring) word r → length (stored r) < r .capacity
@@ -288,32 +279,32 @@ module _ {s : State} {q : ℕ} (a : AtQueue s q) where
   module _ (word : ℕ) (otherwise : Effect) {r : Step} where
     pub sends-to-receiver : T (not (empty (x .receivers))) → Does (deliver q x word) s r → Does (send q x word otherwise) s r
     unfolding send
-    sends-to-receiver t = does-as (run-yes same-key _ _ _ (abs s .rows) t)
+    sends-to-receiver t = does-rest (run-yes same-key _ _ _ (abs s .rows) t) refl
 
     module _ (nobody : T (empty (x .receivers))) where
       pub sends-to-store : T (has-room x) → Does (store q x word) s r → Does (send q x word otherwise) s r
       unfolding send
-      sends-to-store t = does-as (run-no same-key _ _ _ (abs s .rows) (not-some (x .receivers) nobody) ∙ run-yes same-key _ _ _ (abs s .rows) t)
+      sends-to-store t = does-rest (run-no same-key _ _ _ (abs s .rows) (yes-not-not (empty (x .receivers)) nobody) ∙ run-yes same-key _ _ _ (abs s .rows) t) refl
 
       pub sends-otherwise : T (not (has-room x)) → Does otherwise s r → Does (send q x word otherwise) s r
       unfolding send
-      sends-otherwise t = does-as (run-no same-key _ _ _ (abs s .rows) (not-some (x .receivers) nobody) ∙ run-no same-key _ _ _ (abs s .rows) t)
+      sends-otherwise t = does-rest (run-no same-key _ _ _ (abs s .rows) (yes-not-not (empty (x .receivers)) nobody) ∙ run-no same-key _ _ _ (abs s .rows) t) refl
 
   module _ (otherwise : Effect) {r : Step} where
     module _ (words : T (not (empty (x .words)))) where
       pub receives-oldest : T (empty (x .senders)) → Does (take-oldest q x) s r → Does (receive q x otherwise) s r
       unfolding receive
-      receives-oldest t = does-as (run-yes same-key _ _ _ (abs s .rows) words ∙ run-yes same-key _ _ _ (abs s .rows) t)
+      receives-oldest t = does-rest (run-yes same-key _ _ _ (abs s .rows) words ∙ run-yes same-key _ _ _ (abs s .rows) t) refl
 
       pub receives-and-refills : T (not (empty (x .senders))) → Does (take-oldest-and-refill q x) s r → Does (receive q x otherwise) s r
       unfolding receive
-      receives-and-refills t = does-as (run-yes same-key _ _ _ (abs s .rows) words ∙ run-no same-key _ _ _ (abs s .rows) t)
+      receives-and-refills t = does-rest (run-yes same-key _ _ _ (abs s .rows) words ∙ run-no same-key _ _ _ (abs s .rows) t) refl
 
     module _ (none : T (empty (x .words))) where
       pub receives-from-sender : T (not (empty (x .senders))) → Does (take-from-sender q x) s r → Does (receive q x otherwise) s r
       unfolding receive
-      receives-from-sender t = does-as (run-no same-key _ _ _ (abs s .rows) (not-some (x .words) none) ∙ run-yes same-key _ _ _ (abs s .rows) t)
+      receives-from-sender t = does-rest (run-no same-key _ _ _ (abs s .rows) (yes-not-not (empty (x .words)) none) ∙ run-yes same-key _ _ _ (abs s .rows) t) refl
 
       pub receives-otherwise : T (empty (x .senders)) → Does otherwise s r → Does (receive q x otherwise) s r
       unfolding receive
-      receives-otherwise t = does-as (run-no same-key _ _ _ (abs s .rows) (not-some (x .words) none) ∙ run-no same-key _ _ _ (abs s .rows) (not-some (x .senders) t))
+      receives-otherwise t = does-rest (run-no same-key _ _ _ (abs s .rows) (yes-not-not (empty (x .words)) none) ∙ run-no same-key _ _ _ (abs s .rows) (yes-not-not (empty (x .senders)) t)) refl

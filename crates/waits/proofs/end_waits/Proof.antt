@@ -5,7 +5,8 @@ use Prim.Native.Nat.{ℕ}
 use lib.ListN.{length}
 use Rattle.model.specs.WellFormed.{WaitQueue}
 use Rattle.waits.specs.Waiting.{chain-list, ChainOf, Clearable}
-use Rattle.waits.proofs.Laws.{has-chain, Ending, ending-begins, head-endable, still-clearable, ending-on, shorter, ending-done}
+use Rattle.waits.proofs.Laws.{has-chain}
+use Rattle.waits.proofs.Ends.{Ending, ending-begins, head-endable, still-clearable, ending-on, shorter, ending-done}
 use Rattle.waits.proofs.end_waits.Statement.{statement}
 use Rattle.waits.proofs.end_waits.Tie as tie
 
