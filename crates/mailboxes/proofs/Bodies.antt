@@ -199,7 +199,7 @@ module _ {s : State} {b g priority : ℕ} (a : Queueable s b g priority) where
 
 module _ {s : State} {b : ℕ} (a : OnMailbox s b) {head : ℕ} (head-is : head ≡ headD (getD (lists message-limit message-chains (s .messages .link)) b []) 0) where
   pub head-takeable : head ≢ 0 → Takeable s b
-  head-takeable some = record { on = a; something = rw (queued-are a) (some-head _ (λ e. some (head-is ∙ e))) }
+  head-takeable some = record { on = a; something = rw (queued-are a) (some-head _ head-is some) }
 
   module _ (otherwise : Effect) {r : Step} where
     pub received-head : head ≢ 0 → Does (take-message b (mailbox-in s b)) s r → Does (receive-message b (mailbox-in s b) otherwise) s r

@@ -167,7 +167,7 @@ module _ {s : State} {c : Call} (a : Accepted 14 s c) where
   module _ {waiter : ℕ} (waiter-is : waiter ≡ headD (chain-list s (32 + c .object)) 0) where
     module _ (some : waiter ≢ 0) where
       pub message-deliverable : Deliverable s (c .object)
-      message-deliverable = record { on = on-sent; someone = someone-waits (on-waiters on-sent) (waiters-of (c .object)) (own-chain on-sent) (λ e. some (waiter-is ∙ e)) }
+      message-deliverable = record { on = on-sent; someone = someone-waits (on-waiters on-sent) (waiters-of (c .object)) (own-chain on-sent) waiter-is some }
 
       pub sent-delivered : {r : Step} → Does (deliver-message (c .object) (mailbox-in s (c .object)) (message-of c)) s r → Performs snd-mbx s c r
       unfolding send-message one-of
@@ -176,7 +176,7 @@ module _ {s : State} {c : Call} (a : Accepted 14 s c) where
     pub sent-queued : {r : Step} → waiter ≡ 0 → Does (queue-message (c .object) (mailbox-in s (c .object)) (message-of c) (message-priority-of c)) s r → Performs snd-mbx s c r
     unfolding send-message one-of empty
     sent-queued none d =
-        let nobody = nobody-waits (on-waiters on-sent) (waiters-of (c .object)) (own-chain on-sent) (sym waiter-is ∙ none) in
+        let nobody = nobody-waits (on-waiters on-sent) (waiters-of (c .object)) (own-chain on-sent) waiter-is none in
         performs a snd-mbx (rw (shown a tt) (does-rest (run-no same-key _ _ _ _ (rw nobody tt)) refl d))
 
 -- ── 16 ──

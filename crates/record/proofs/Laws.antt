@@ -12,7 +12,6 @@ use lib.Seq.{getD-set-same, getD-set-other}
 use Rattle.rows.specs.Program as Program
 use Rattle.rows.specs.Program.{return, update, run}
 use Rattle.rows.proofs.Update.{update-cases}
-use Rattle.chain.specs.Table as chain
 use Rattle.chain.specs.Changes.{HasChain, Changed}
 use Rattle.chain.specs.declared.Chains.{Chains}
 use Rattle.chain.proofs.Standing.{new-list, other-list}

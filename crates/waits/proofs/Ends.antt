@@ -170,7 +170,7 @@ module _ {s : State} {chain : ℕ} {code : Code} (a : Clearable s chain code) {t
   sound-now = a .on .sound
 
   not-none : T (not (empty (chain-list s chain)))
-  not-none = some-head (chain-list s chain) (λ e. someone (head-is ∙ e))
+  not-none = some-head (chain-list s chain) head-is someone
 
   in-chain-list : In t (chain-list s chain)
   in-chain-list = rw head-is (in-head (chain-list s chain) not-none)
@@ -245,9 +245,9 @@ module _ {s : State} {chain : ℕ} {code : Code} (a : Clearable s chain code) {t
         let b = ap length before in
         omega arith
 
-pub ending-done : {s₀ s : State} {chain : ℕ} {code : Code} → OnChain s chain → headD (chain-list s chain) 0 ≡ 0 → (k : WaitQueue) → ChainOf k chain → Ending k code s₀ s → Cleared k code s₀ s
+pub ending-done : {s₀ s : State} {chain t : ℕ} {code : Code} → OnChain s chain → t ≡ headD (chain-list s chain) 0 → t ≡ 0 → (k : WaitQueue) → ChainOf k chain → Ending k code s₀ s → Cleared k code s₀ s
 unfolding end-waits
-ending-done {s₀} {s} {chain} {code} a none k o i = record {
+ending-done {s₀} {s} {chain} {t} {code} a head-is none k o i = record {
   sound = a .sound;
   counter-is = i .counter-is;
   runs = λ p. i .runs p ∙ ap (λ l. run same-key (end-waits l code p) (abs s .rows)) gone;
@@ -257,4 +257,4 @@ ending-done {s₀} {s} {chain} {code} a none k o i = record {
 }
   where
     gone : standing-in (abs s .rows) k ≡ []
-    gone = nobody-waits a k o none
+    gone = nobody-waits a k o head-is none

@@ -12,7 +12,7 @@ use Rattle.chain.proofs.Laws.{inserted-place}
 use Rattle.model.specs.Sizes.{task-limit}
 use Rattle.model.specs.Rows.{task, valid, TaskRow}
 use Rattle.model.specs.Codes.{waits}
-use Rattle.model.specs.Waits.{able, starting}
+use Rattle.model.specs.Waits.{starting}
 use Rattle.model.specs.WaitQueues.{place}
 use Rattle.model.specs.WellFormed.{WaitQueue, standing-in}
 use Rattle.model.specs.declared.Wait.{Wait}

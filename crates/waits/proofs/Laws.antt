@@ -60,21 +60,22 @@ unfolding tasks-in
 standing-chain s k v = standing-is s k v
 
 -- A list whose first number isn't 0 has a head.
-pub some-head : (l : List ℕ) → headD l 0 ≢ 0 → T (not (empty l))
+pub some-head : {first : ℕ} (l : List ℕ) → first ≡ headD l 0 → first ≢ 0 → T (not (empty l))
 unfolding headD empty
-some-head [] f = f refl
-some-head (x ∷ l) f = tt
+some-head [] e f = f e
+some-head (x ∷ l) e f = tt
 
 -- What a chain's first number says of its wait queue.
 module _ {s : State} {chain : ℕ} (a : OnChain s chain) (k : WaitQueue) (o : ChainOf k chain) where
   pub chain-of-queue : standing-in (abs s .rows) k ≡ chain-list s chain
   chain-of-queue = standing-chain s k (o .valid-object) ∙ ap (chain-list s) (o .chain-is)
 
-  pub nobody-waits : headD (chain-list s chain) 0 ≡ 0 → standing-in (abs s .rows) k ≡ []
-  nobody-waits none = chain-of-queue ∙ chain-zero (has-chain a) refl .then-empty none
+  module _ {first : ℕ} (first-is : first ≡ headD (chain-list s chain) 0) where
+    pub nobody-waits : first ≡ 0 → standing-in (abs s .rows) k ≡ []
+    nobody-waits none = chain-of-queue ∙ chain-zero (has-chain a) first-is .then-empty none
 
-  pub someone-waits : headD (chain-list s chain) 0 ≢ 0 → T (not (empty (standing-in (abs s .rows) k)))
-  someone-waits f = rw chain-of-queue (some-head (chain-list s chain) f)
+    pub someone-waits : first ≢ 0 → T (not (empty (standing-in (abs s .rows) k)))
+    someone-waits some = rw chain-of-queue (some-head (chain-list s chain) first-is some)
 
   pub releasable : T (not (empty (standing-in (abs s .rows) k))) → Releasable s chain
   releasable f = record { on = a; someone = rw chain-of-queue at f }

@@ -1,8 +1,8 @@
 -- `replace_oldest` drops the oldest word and stores another: by what the ring promises.
 use native.Mathlib.Omega.{arith}
-use Rattle.model.specs.Codes.{finished}
 use borrow.Author.Needs.{needs}
-use Rattle.data_queues.proofs.Laws.{queue-range, ring-in-range, some-word, replaces}
+use Rattle.data_queues.proofs.Laws.{queue-range, ring-in-range, some-word}
+use Rattle.data_queues.proofs.Sending.{replaces}
 use Rattle.data_queues.proofs.replace_oldest.Statement.{statement}
 use Rattle.data_queues.proofs.replace_oldest.Tie as tie
 

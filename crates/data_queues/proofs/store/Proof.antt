@@ -1,8 +1,8 @@
 -- `store` stores the word behind the others: by what the ring's push promises.
 use native.Mathlib.Omega.{arith}
-use Rattle.model.specs.Codes.{finished}
 use borrow.Author.Needs.{needs}
-use Rattle.data_queues.proofs.Laws.{queue-range, ring-in-range, room-left, stores}
+use Rattle.data_queues.proofs.Laws.{queue-range, ring-in-range, room-left}
+use Rattle.data_queues.proofs.Sending.{stores}
 use Rattle.data_queues.proofs.store.Statement.{statement}
 use Rattle.data_queues.proofs.store.Tie as tie
 

@@ -6,7 +6,8 @@ use Rattle.model.specs.WellFormed.{senders-of}
 use Rattle.model.specs.declared.Code.the-variants.{Ok as E-OK}
 use Rattle.waits.proofs.Laws.{has-chain, releasable}
 use borrow.Author.Needs.{needs}
-use Rattle.data_queues.proofs.Laws.{on-senders, senders-chain, sender-range, sender-word, takes-from-sender}
+use Rattle.data_queues.proofs.Laws.{on-senders, senders-chain}
+use Rattle.data_queues.proofs.Receiving.{sender-range, sender-word, takes-from-sender}
 use Rattle.data_queues.proofs.take_from_sender.Statement.{statement}
 use Rattle.data_queues.proofs.take_from_sender.Tie as tie
 

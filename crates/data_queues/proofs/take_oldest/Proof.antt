@@ -1,8 +1,8 @@
 -- `take_oldest` hands out the oldest word: by what the ring's pop promises.
 use native.Mathlib.Omega.{arith}
-use Rattle.model.specs.Codes.{finished}
 use borrow.Author.Needs.{needs}
-use Rattle.data_queues.proofs.Laws.{queue-range, ring-in-range, some-word, takes-oldest}
+use Rattle.data_queues.proofs.Laws.{queue-range, ring-in-range, some-word}
+use Rattle.data_queues.proofs.Receiving.{takes-oldest}
 use Rattle.data_queues.proofs.take_oldest.Statement.{statement}
 use Rattle.data_queues.proofs.take_oldest.Tie as tie
 

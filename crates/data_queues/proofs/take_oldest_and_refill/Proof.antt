@@ -1,11 +1,11 @@
 -- `take_oldest_and_refill` hands out the oldest word, stores the head sender's and releases it: by what the ring and a release promise.
 use mathlib.Core.Path.{_∙_}
 use native.Mathlib.Omega.{arith}
-use Rattle.model.specs.Codes.{finished}
 use Rattle.model.specs.WellFormed.{senders-of}
 use Rattle.waits.proofs.Laws.{has-chain, releasable}
 use borrow.Author.Needs.{needs}
-use Rattle.data_queues.proofs.Laws.{queue-range, ring-in-range, on-senders, senders-chain, some-word, room-again, sender-range, sender-word, takes-oldest-and-refills}
+use Rattle.data_queues.proofs.Laws.{queue-range, ring-in-range, on-senders, senders-chain, some-word}
+use Rattle.data_queues.proofs.Receiving.{room-again, sender-range, sender-word, takes-oldest-and-refills}
 use Rattle.data_queues.proofs.take_oldest_and_refill.Statement.{statement}
 use Rattle.data_queues.proofs.take_oldest_and_refill.Tie as tie
 

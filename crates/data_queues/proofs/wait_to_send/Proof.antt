@@ -2,7 +2,8 @@
 use mathlib.Core.Path.{sym, ap}
 use native.Mathlib.Omega.{arith}
 use lib.Dec.{eqb}
-use Rattle.data_queues.proofs.Laws.{queue-range, on-senders, attribute-is, waits-to-send}
+use Rattle.data_queues.proofs.Laws.{queue-range, on-senders, attribute-is}
+use Rattle.data_queues.proofs.Sending.{waits-to-send}
 use Rattle.data_queues.proofs.wait_to_send.Statement.{statement}
 use Rattle.data_queues.proofs.wait_to_send.Tie as tie
 
