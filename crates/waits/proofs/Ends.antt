@@ -1,7 +1,7 @@
--- Waits end: the head's, any task's, or all of a wait queue, each by the chain's promise and the task's new cell.
+-- A task's wait ends, at whatever place, and all waits of a wait queue end, from its head on: by the chain's removal and the task's new cell.
 use mathlib.Core.Path.{_≡_, refl, sym, ap, _∙_}
 use mathlib.Core.Bool.{not}
-use mathlib.Core.List.{List, [], _∷_, tail, headD, List·Memᴰ as In}
+use mathlib.Core.List.{List, [], _∷_, headD, List·Memᴰ as In}
 use mathlib.Core.Logic.{_≢_}
 use mathlib.Core.Option.{some, Option·none-ne-some}
 use Prim.Native.Nat.{ℕ, _<_, _≤_}
@@ -13,7 +13,7 @@ use Rattle.lists.proofs.Stands.{in-head, without-head}
 use Rattle.rows.specs.Program as Program
 use Rattle.rows.specs.Program.{run}
 use Rattle.rows.proofs.Update.{update-same, update-other}
-use Rattle.chain.specs.Changes.{HasChain, Changed, Popped, Removed}
+use Rattle.chain.specs.Changes.{HasChain, Changed, Removed}
 use Rattle.chain.proofs.Laws.{list-range}
 use Rattle.model.specs.Sizes.{task-limit}
 use Rattle.model.specs.Rows.{task, mailbox, same-key, valid, Row, TaskRow, Effect}
@@ -22,7 +22,6 @@ use Rattle.model.specs.Waits.{able, ended}
 use Rattle.model.specs.WaitQueues.{end-wait, end-waits}
 use Rattle.model.specs.WellFormed.{WaitQueue, object-of, standing-in, wait-queue, ends-a-wait, TaskWellFormed, WellFormedRows}
 use Rattle.model.specs.declared.Code.{Code}
-use Rattle.model.specs.declared.Code.the-variants.{Ok as E-OK}
 use Rattle.model.specs.declared.Wait.{Wait}
 use Rattle.model.specs.declared.Wait.the-variants.{NoWait, Sending, Receiving, AtMailbox}
 use Rattle.model.proofs.Tests.{from-within, to-within}
@@ -37,41 +36,12 @@ use Rattle.record.specs.declared.State.{State}
 use Rattle.record.specs.Meaning.{task-at, abs}
 use Rattle.record.specs.Sound.{Readable, Sound}
 use Rattle.record.specs.Step.{Becomes}
-use Rattle.waits.specs.Waiting.{chain-list, ChainOf, OnChain, Releasable, Released, released, ended-wait, Endable, Ended, Clearable, Cleared}
+use Rattle.waits.specs.Waiting.{chain-list, ChainOf, OnChain, ended-wait, Endable, Ended, Clearable, Cleared}
 use Rattle.record.proofs.Rows.{passes-or-not, row-is}
 use Rattle.record.proofs.Chains.{chain-range, ChainOwner, chain-owner, named-chain}
 use Rattle.record.proofs.Standing.{stands-from}
 use Rattle.record.proofs.Laws.{with-task, with-waiting}
-use Rattle.waits.proofs.Laws.{rows-of, becomes-sound, has-chain, standing-chain, some-head, chain-of-queue, nobody-waits, waiter-valid, waiter-defined, ended-cell, ended-row, wait-changed}
-
--- ── The head is released ──
-
-module _ {s : State} {chain : ℕ} (a : Releasable s chain) {link : List ℕ} {t : ℕ} (p : Popped task-limit task-chains chain (s .waiting .link) link t) where
-  in-list : In t (chain-list s chain)
-  in-list = rw (p .first-is) (in-head (chain-list s chain) (a .someone))
-
-  module _ (k : WaitQueue) (o : ChainOf k chain) where
-    list-is : standing-in (abs s .rows) k ≡ chain-list s chain
-    list-is = chain-of-queue (a .on) k o
-
-    in-k : In t (standing-in (abs s .rows) k)
-    in-k = rw list-is in-list
-
-    released-is : (word : ℕ) → Becomes s (released k word (abs s .rows))
-        (with-task t (ended-cell E-OK word (task-at s t)) (with-waiting link s))
-    released-is word =
-        let S = a .on .sound in
-        let row : task-row (task-at s t) (getD (s .waiting .key) t 0) ≡ abs s .rows (task t) = sym (row-is s (task t) (waiter-valid S k in-k)) in
-        rw (list-is, ← p .first-is)
-        (wait-changed (S .readable) k (o .valid-object) link (tail (chain-list s chain)) (rw (o .chain-is) (p .changed)) t (waiter-valid S k in-k) _ _ refl
-        (ended-row (task-at s t) _ (waiter-defined S k in-k) E-OK word ∙ ap (ended E-OK word) row))
-
-  pub head-range : (1 ≤ t) × (t ≤ task-limit)
-  head-range = list-range (has-chain (a .on)) in-list
-
-  pub released-all : (word : ℕ) → Released s chain word
-      (with-task t (ended-cell E-OK word (task-at s t)) (with-waiting link s))
-  released-all word = record { becomes = λ k o. released-is k o word }
+use Rattle.waits.proofs.Laws.{rows-of, becomes-sound, has-chain, standing-chain, some-head, chain-of-queue, nobody-waits, ended-cell, ended-row, wait-changed}
 
 -- ── A wait ends ──
 

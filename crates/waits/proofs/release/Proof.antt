@@ -2,7 +2,7 @@
 use native.Mathlib.Omega.{arith}
 use borrow.Author.Needs.{needs}
 use Rattle.waits.proofs.Laws.{has-chain}
-use Rattle.waits.proofs.Ends.{head-range, released-all}
+use Rattle.waits.proofs.Moves.{head-range, released-all}
 use Rattle.waits.proofs.release.Statement.{statement}
 use Rattle.waits.proofs.release.Tie as tie
 
