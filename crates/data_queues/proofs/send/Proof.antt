@@ -38,7 +38,12 @@ store-requires : tie.Need-store-requires
 store-requires c κs = let a = c .before .before .before .before .before .before .before .before .before .pre .0 in (a, has-room-now a (c .before .before .length .ensures) (c .before .capacity .ensures) (c .if2 .taken))
 
 returns-2 : tie.Need-returns-2
-returns-2 c = let a = c .before .before .before .before .before .before .before .before .before .before .pre .0 in sends-to-store a _ _ (no-receiver a (c .before .before .before .before .before .before .before .first .ensures) (c .before .before .before .before .before .before .if1 .left)) (has-room-now a (c .before .before .before .length .ensures) (c .before .before .capacity .ensures) (c .before .if2 .taken)) (c .store .ensures)
+returns-2 c =
+    let room = c .before in
+    let nobody = room .before .before .before .before .before in
+    let a = nobody .before .before .before .before .pre .0 in
+    sends-to-store a _ _ (no-receiver a (nobody .before .first .ensures) (nobody .if1 .left))
+    (has-room-now a (room .before .before .length .ensures) (room .before .capacity .ensures) (room .if2 .taken)) (c .store .ensures)
 
 enum-told : tie.Need-enum-told
 enum-told c = search needs
@@ -50,22 +55,45 @@ enum-known-full : tie.Need-enum-known-full
 enum-known-full c = search needs
 
 wait-to-send-requires : tie.Need-wait-to-send-requires
-wait-to-send-requires c κs = (c .before .before .before .before .before .before .before .before .before .before .before .before .pre .0, rw (c .before .full .given .1) at (c .before .before .before .before .before .before .before .before .before .before .before .before .pre .1))
+wait-to-send-requires c κs =
+    let start = c .before .before .before .before .before .before .before .before .before .before .before .before in
+    (start .pre .0, rw (c .before .full .given .1) at (start .pre .1))
 
 enum-told-2 : tie.Need-enum-told-2
 enum-told-2 c = search needs
 
 replace-oldest-requires : tie.Need-replace-oldest-requires
-replace-oldest-requires c κs = let a = c .before .before .before .before .before .before .before .before .before .before .before .pre .0 in let full = no-room a (c .before .before .before .before .length .ensures) (c .before .before .before .capacity .ensures) (c .before .before .if2 .left) in let room : FullReady _ _ Replace = rw (c .enum-told2 .given .1) at (c .before .before .before .before .before .before .before .before .before .before .before .pre .1) in (a, full-words a full (room (no-receiver a (c .before .before .before .before .before .before .before .before .first .ensures) (c .before .before .before .before .before .before .before .if1 .left))))
+replace-oldest-requires c κs =
+    let full = c .before .before in
+    let nobody = full .before .before .before .before .before in
+    let start = nobody .before .before .before .before in
+    let a = start .pre .0 in
+    let ready : FullReady _ _ Replace = rw (c .enum-told2 .given .1) at (start .pre .1) in
+    (a, full-words a (no-room a (full .before .before .length .ensures) (full .before .capacity .ensures) (full .if2 .left)) (ready (no-receiver a (nobody .before .first .ensures) (nobody .if1 .left))))
 
 returns-3 : tie.Need-returns-3
-returns-3 c = let a = c .before .before .before .before .before .before .before .before .before .before .before .before .pre .0 in sends-otherwise a _ _ (no-receiver a (c .before .before .before .before .before .before .before .before .before .first .ensures) (c .before .before .before .before .before .before .before .before .if1 .left)) (no-room a (c .before .before .before .before .before .length .ensures) (c .before .before .before .before .capacity .ensures) (c .before .before .before .if2 .left)) (rw (c .before .enum-told .given .1) (stays (a .sound .readable) (c .finished .ensures)))
+returns-3 c =
+    let full = c .before .before .before in
+    let nobody = full .before .before .before .before .before in
+    let a = nobody .before .before .before .before .pre .0 in
+    sends-otherwise a _ _ (no-receiver a (nobody .before .first .ensures) (nobody .if1 .left))
+    (no-room a (full .before .before .length .ensures) (full .before .capacity .ensures) (full .if2 .left)) (rw (c .before .enum-told .given .1) (stays (a .sound .readable) (c .finished .ensures)))
 
 returns-4 : tie.Need-returns-4
-returns-4 c = let a = c .before .before .before .before .before .before .before .before .before .before .before .before .before .pre .0 in sends-otherwise a _ _ (no-receiver a (c .before .before .before .before .before .before .before .before .before .before .first .ensures) (c .before .before .before .before .before .before .before .before .before .if1 .left)) (no-room a (c .before .before .before .before .before .before .length .ensures) (c .before .before .before .before .before .capacity .ensures) (c .before .before .before .before .if2 .left)) (rw (c .before .before .full .given .1) (c .wait-to-send .ensures))
+returns-4 c =
+    let full = c .before .before .before .before in
+    let nobody = full .before .before .before .before .before in
+    let a = nobody .before .before .before .before .pre .0 in
+    sends-otherwise a _ _ (no-receiver a (nobody .before .first .ensures) (nobody .if1 .left))
+    (no-room a (full .before .before .length .ensures) (full .before .capacity .ensures) (full .if2 .left)) (rw (c .before .before .full .given .1) (c .wait-to-send .ensures))
 
 returns-5 : tie.Need-returns-5
-returns-5 c = let a = c .before .before .before .before .before .before .before .before .before .before .before .before .pre .0 in sends-otherwise a _ _ (no-receiver a (c .before .before .before .before .before .before .before .before .before .first .ensures) (c .before .before .before .before .before .before .before .before .if1 .left)) (no-room a (c .before .before .before .before .before .length .ensures) (c .before .before .before .before .capacity .ensures) (c .before .before .before .if2 .left)) (rw (c .before .enum-told2 .given .1) (c .replace-oldest .ensures))
+returns-5 c =
+    let full = c .before .before .before in
+    let nobody = full .before .before .before .before .before in
+    let a = nobody .before .before .before .before .pre .0 in
+    sends-otherwise a _ _ (no-receiver a (nobody .before .first .ensures) (nobody .if1 .left))
+    (no-room a (full .before .before .length .ensures) (full .before .capacity .ensures) (full .if2 .left)) (rw (c .before .enum-told2 .given .1) (c .replace-oldest .ensures))
 
 pub send-spec : {M : Type 1} → statement M
 send-spec =
