@@ -27,13 +27,19 @@ held-word-requires : tie.Need-held-word-requires
 held-word-requires c κs = search needs
 
 release-requires : tie.Need-release-requires
-release-requires c κs = releasable (on-senders (c .before .before .before .before .before .pre .0)) (senders-of _) (senders-chain (c .before .before .before .before .before .pre .0)) (c .before .before .before .before .before .pre .1)
+release-requires c κs =
+    let start = c .before .before .before .before .before in
+    releasable (on-senders (start .pre .0)) (senders-of _) (senders-chain (start .pre .0)) (start .pre .1)
 
 finished-requires : tie.Need-finished-requires
 finished-requires c κs = search needs
 
 returns : tie.Need-returns
-returns c = takes-from-sender (c .before .before .before .before .before .before .before .pre .0) (c .before .release .ensures) (c .finished .ensures ∙ ap (λ n. finished E-OK n 0 0) (c .before .before .held-word .ensures ∙ sender-word (c .before .before .before .before .before .before .before .pre .0) (c .before .before .before .before .first .ensures) (c .before .before .before .before .before .before .before .pre .1)))
+returns c =
+    let head = c .before .before .before .before in
+    let start = head .before .before .before in
+    let word-is = c .before .before .held-word .ensures ∙ sender-word (start .pre .0) (head .first .ensures) (start .pre .1) in
+    takes-from-sender (start .pre .0) (c .before .release .ensures) (c .finished .ensures ∙ ap (λ n. finished E-OK n 0 0) word-is)
 
 pub take-from-sender-spec : {M : Type 1} → statement M
 take-from-sender-spec =

@@ -28,7 +28,7 @@ element-copy-out-queue : tie.Need-element-copy-out-queue
 element-copy-out-queue c = let h = queue-range (c .before .before .before .before .pre .0) in omega arith
 
 pop-requires : tie.Need-pop-requires
-pop-requires c κs = (ring-in-range (c .before .before .before .before .before .pre .0), some-word (c .before .before .before .before .before .pre .0) (c .before .before .before .before .before .pre .1))
+pop-requires c κs = let start = c .before .before .before .before .before in (ring-in-range (start .pre .0), some-word (start .pre .0) (start .pre .1))
 
 held-word-requires : tie.Need-held-word-requires
 held-word-requires c κs = search needs
@@ -37,7 +37,9 @@ push-requires : tie.Need-push-requires
 push-requires c κs = (c .before .pop .ensures .kept .in-range, room-again (c .before .before .before .before .before .before .before .pre .0) (c .before .pop .ensures))
 
 release-requires : tie.Need-release-requires
-release-requires c κs = releasable (on-senders (c .before .before .before .before .before .before .before .before .pre .0)) (senders-of _) (senders-chain (c .before .before .before .before .before .before .before .before .pre .0)) (c .before .before .before .before .before .before .before .before .pre .2)
+release-requires c κs =
+    let start = c .before .before .before .before .before .before .before .before in
+    releasable (on-senders (start .pre .0)) (senders-of _) (senders-chain (start .pre .0)) (start .pre .2)
 
 mul-t14 : tie.Need-mul-t14
 mul-t14 c = let h = queue-range (c .before .before .before .before .before .before .before .before .before .pre .0) in omega arith
@@ -49,7 +51,13 @@ finished-requires : tie.Need-finished-requires
 finished-requires c κs = search needs
 
 returns : tie.Need-returns
-returns c = let a = c .before .before .before .before .before .before .before .before .before .before .pre .0 in takes-oldest-and-refills a (c .before .before .before .before .pop .ensures) (rw (c .before .before .before .held-word .ensures ∙ sender-word a (c .before .before .before .before .before .before .before .first .ensures) (c .before .before .before .before .before .before .before .before .before .before .pre .2)) at (c .before .before .push .ensures)) (c .before .release .ensures) (c .finished .ensures)
+returns c =
+    let pushed = c .before .before in
+    let popped = pushed .before .before in
+    let head = popped .before .before .before in
+    let start = head .before .before .before in
+    let word-is = pushed .before .held-word .ensures ∙ sender-word (start .pre .0) (head .first .ensures) (start .pre .2) in
+    takes-oldest-and-refills (start .pre .0) (popped .pop .ensures) (rw word-is at (pushed .push .ensures)) (c .before .release .ensures) (c .finished .ensures)
 
 pub take-oldest-and-refill-spec : {M : Type 1} → statement M
 take-oldest-and-refill-spec =
