@@ -1,5 +1,5 @@
 -- The calls on data queues: what an accepted call has in view is its queue's own row, so its body does what its definition says.
-use mathlib.Core.Path.{_≡_, refl, sym, ap, _∙_, subst}
+use mathlib.Core.Path.{_≡_, refl, sym, ap, _∙_}
 use mathlib.Core.Bool.{true, false, not, _||_}
 use mathlib.Core.List.{[], headD}
 use Prim.Native.Nat.{ℕ, _+_, _≤_}
@@ -14,7 +14,7 @@ use Rattle.ring.specs.declared.Ring.{Ring}
 use Rattle.model.specs.Sizes.{capacity-limit}
 use Rattle.model.specs.Rows.{queue, Environment, Effect, same-key, valid, QueueRow, no-queue}
 use Rattle.model.specs.Codes.{finished, done}
-use Rattle.model.specs.Calls.{View, names-queue, creates, view-of}
+use Rattle.model.specs.Calls.{View, names-queue, creates}
 use Rattle.model.specs.Errors.{task-only, exists}
 use Rattle.model.specs.WaitQueues.{end-waits}
 use Rattle.model.specs.DataQueues.{send, receive, cre-dtq, del-dtq, snd-dtq, psnd-dtq, tsnd-dtq, fsnd-dtq, rcv-dtq, prcv-dtq, trcv-dtq, ref-dtq}
@@ -24,16 +24,16 @@ use Rattle.model.specs.declared.Answer.{Answer}
 use Rattle.model.specs.declared.Call.{Call}
 use Rattle.model.specs.declared.Code.the-variants.{Ok as E-OK, Dlt as E-DLT}
 use Rattle.model.specs.declared.End.the-variants.{Never}
+use Rattle.model.proofs.After.{after-return, after-put}
 use Rattle.model.proofs.Tests.{only-left, neither-left}
 use Rattle.model.proofs.Step.{numbered}
-use Rattle.model.proofs.Checked.{queue-attribute, queue-capacity, exists-not, exists-already, caller-defined, caller-able, something-to-drop}
+use Rattle.model.proofs.Checked.{queue-attribute, queue-capacity, exists-not, exists-already, something-to-drop}
 use Rattle.record.specs.declared.State.{State}
 use Rattle.record.specs.declared.Step.{Step}
 use Rattle.record.specs.Meaning.{queue-at, abs}
 use Rattle.record.specs.Step.{Becomes, Does, Accepted, Performs}
-use Rattle.record.proofs.Laws.{with-queue, queue-changed, stays, meaning}
-use Rattle.record.proofs.Accepted.{passed, valid-queue, the-queue-is, caller-is}
-use Rattle.record.proofs.Numbered.{numbered-call, performs}
+use Rattle.record.proofs.Laws.{with-queue, queue-changed, meaning, does, does-rest, stays}
+use Rattle.record.proofs.Accepted.{counter-of, view, performs, passed, valid-queue, the-queue-is, caller-is, caller-waits}
 use Rattle.waits.specs.Waiting.{chain-list, Cleared, AllEnded}
 use Rattle.waits.proofs.Laws.{rows-of, chain-of-queue}
 use Rattle.data_queues.proofs.Laws.{words-are, on-senders, on-receivers, senders-chain, receivers-chain}
@@ -43,31 +43,17 @@ use Rattle.data_queues.specs.declared.Full.the-variants as full
 use Rattle.data_queues.specs.declared.Empty.{Empty}
 use Rattle.data_queues.specs.declared.Empty.the-variants as empty
 
--- The counter that calls read is the record's.
-counter-of : (s : State) → abs s .environment .counter ≡ s .counter
-unfolding abs
-counter-of s = refl
-
 module _ {n : ℕ} {s : State} {c : Call} (a : Accepted n s c) where
-  abbrev view : View
-  view = view-of (abs s .rows) (numbered n c)
-
-  at-queue : T (names-queue (numbered n c)) → T (view .the-queue .defined) → AtQueue s (c .object)
-  at-queue named defined = record {
-    sound = a .sound;
-    valid-queue = valid-queue (numbered-call a) named;
-    defined = subst (λ (x : QueueRow). T (x .defined)) (the-queue-is (numbered-call a) named) defined;
-  }
-
   can-wait : T (task-only (numbered n c)) → CanWait s (c .caller)
-  can-wait h = record {
-    defined = rw (caller-is (numbered-call a) h) at (caller-defined (passed (numbered-call a)) h);
-    able = rw (caller-is (numbered-call a) h) at (caller-able (passed (numbered-call a)) h);
-  }
+  can-wait h = let w = caller-waits a h in record { defined = w .0; able = w .1 }
 
   -- The queue exists where the call doesn't create it.
-  already : T (names-queue (numbered n c)) → T (not (creates (numbered n c))) → (T (exists view (numbered n c)) → T (view .the-queue .defined || false)) → AtQueue s (c .object)
-  already named not-created only = at-queue named (only-left (view .the-queue .defined) (only (exists-already (passed (numbered-call a)) not-created)))
+  already : T (names-queue (numbered n c)) → T (not (creates (numbered n c))) → (T (exists (view a) (numbered n c)) → T (view a .the-queue .defined || false)) → AtQueue s (c .object)
+  already named not-created only = record {
+    sound = a .sound;
+    valid-queue = valid-queue a named;
+    defined = rw (the-queue-is a named) at (only-left (view a .the-queue .defined) (only (exists-already (passed a) not-created)));
+  }
 
 -- ── Sending ──
 
@@ -83,27 +69,27 @@ module _ {s : State} {c : Call} where
   sends-4 a = record {
     at = already a tt tt (λ t. t);
     ready = can-wait a tt;
-    does = λ d. performs snd-dtq a (rw (the-queue-is (numbered-call a) tt, caller-is (numbered-call a) tt) d);
+    does = λ d. performs a snd-dtq (rw (the-queue-is a tt, caller-is a tt) d);
   }
 
   pub sends-5 : Accepted 5 s c → SendsAs s c full.Refuse psnd-dtq
   unfolding one-of exists
-  sends-5 a = record { at = already a tt tt (λ t. t); ready = tt; does = λ d. performs psnd-dtq a (rw (the-queue-is (numbered-call a) tt) d) }
+  sends-5 a = record { at = already a tt tt (λ t. t); ready = tt; does = λ d. performs a psnd-dtq (rw (the-queue-is a tt) d) }
 
   pub sends-6 : Accepted 6 s c → SendsAs s c (full.Wait (c .caller) (end-of (s .counter) (c .tmout))) tsnd-dtq
   unfolding one-of exists
   sends-6 a = record {
     at = already a tt tt (λ t. t);
     ready = can-wait a tt;
-    does = λ d. performs tsnd-dtq a (rw (the-queue-is (numbered-call a) tt, caller-is (numbered-call a) tt, counter-of s) d);
+    does = λ d. performs a tsnd-dtq (rw (the-queue-is a tt, caller-is a tt, counter-of s) d);
   }
 
   pub sends-7 : Accepted 7 s c → SendsAs s c full.Replace fsnd-dtq
   unfolding one-of exists
   sends-7 a = record {
     at = already a tt tt (λ t. t);
-    ready = rw (the-queue-is (numbered-call a) tt) at (something-to-drop (passed (numbered-call a)) tt);
-    does = λ d. performs fsnd-dtq a (rw (the-queue-is (numbered-call a) tt) d);
+    ready = rw (the-queue-is a tt) at (something-to-drop (passed a) tt);
+    does = λ d. performs a fsnd-dtq (rw (the-queue-is a tt) d);
   }
 
 -- ── Receiving ──
@@ -119,19 +105,19 @@ module _ {s : State} {c : Call} where
   receives-8 a = record {
     at = already a tt tt (λ t. t);
     ready = can-wait a tt;
-    does = λ d. performs rcv-dtq a (rw (the-queue-is (numbered-call a) tt, caller-is (numbered-call a) tt) d);
+    does = λ d. performs a rcv-dtq (rw (the-queue-is a tt, caller-is a tt) d);
   }
 
   pub receives-9 : Accepted 9 s c → ReceivesAs s c empty.Refuse prcv-dtq
   unfolding one-of exists
-  receives-9 a = record { at = already a tt tt (λ t. t); ready = tt; does = λ d. performs prcv-dtq a (rw (the-queue-is (numbered-call a) tt) d) }
+  receives-9 a = record { at = already a tt tt (λ t. t); ready = tt; does = λ d. performs a prcv-dtq (rw (the-queue-is a tt) d) }
 
   pub receives-10 : Accepted 10 s c → ReceivesAs s c (empty.Wait (c .caller) (end-of (s .counter) (c .tmout))) trcv-dtq
   unfolding one-of exists
   receives-10 a = record {
     at = already a tt tt (λ t. t);
     ready = can-wait a tt;
-    does = λ d. performs trcv-dtq a (rw (the-queue-is (numbered-call a) tt, caller-is (numbered-call a) tt, counter-of s) d);
+    does = λ d. performs a trcv-dtq (rw (the-queue-is a tt, caller-is a tt, counter-of s) d);
   }
 
 -- ── Creating, deleting, reading ──
@@ -139,24 +125,23 @@ module _ {s : State} {c : Call} where
 module _ {s : State} {c : Call} where
   pub created : (a : Accepted 2 s c) → (c .attribute ≤ 1) × (c .value ≤ capacity-limit) × T (valid (queue (c .object)))
   unfolding one-of
-  created a = (queue-attribute (passed (numbered-call a)) tt, queue-capacity (passed (numbered-call a)) tt, valid-queue (numbered-call a) tt)
+  created a = (queue-attribute (passed a) tt, queue-capacity (passed a) tt, valid-queue a tt)
 
   -- Nobody waits at a queue that isn't there yet.
   none-before : (a : Accepted 2 s c) → (abs s .rows (queue (c .object)) .senders ≡ []) × (abs s .rows (queue (c .object)) .receivers ≡ [])
   unfolding one-of exists
   none-before a =
-      let missing : T (not (abs s .rows (queue (c .object)) .defined)) = rw (the-queue-is (numbered-call a) tt) at (neither-left (view-of (abs s .rows) (numbered 2 c) .the-queue .defined) false (exists-not (passed (numbered-call a)) tt)) in
+      let missing : T (not (abs s .rows (queue (c .object)) .defined)) = rw (the-queue-is a tt) at (neither-left (view a .the-queue .defined) false (exists-not (passed a) tt)) in
       let u = rows-of (a .sound) .queues (c .object) .undefined missing in
       (u .1, u .2)
 
   pub creates-queue : (a : Accepted 2 s c) {y : Answer} {r : Ring} → ring.Empty (c .value) r → y ≡ finished E-OK 0 0 0
       → Performs cre-dtq s c (record { state = with-queue (c .object) (record { defined = true; attribute = c .attribute; ring = r }) s; answer = y })
-  unfolding run
-  creates-queue a {y} {r} e ok = record {
-    becomes = meaning (ap (λ (x : QueueRow). update same-key (queue (c .object)) x (abs s .rows)) (rw (none-before a .0, none-before a .1, e .words-are, e .kept .capacity-is) refl))
-        (queue-changed (a .sound .readable) (c .object) (created a .2) _ (λ d. e .kept .in-range));
-    answer-is = ok;
-  }
+  creates-queue a e ok = does (after-put (after-return (
+    meaning (ap (λ (x : QueueRow). update same-key (queue (c .object)) x (abs s .rows)) (rw (none-before a .0, none-before a .1, e .words-are, e .kept .capacity-is) refl))
+        (queue-changed (a .sound .readable) (c .object) (created a .2) _ (λ d. e .kept .in-range)),
+    ok,
+  )))
 
   pub deletes-at : Accepted 3 s c → AtQueue s (c .object)
   unfolding one-of exists
@@ -169,11 +154,8 @@ module _ {s : State} {c : Call} where
   -- The waits end, and what is left of the program makes the queue undefined.
   pub deletes-queue : (a : Accepted 3 s c) {u w : State} {y : Answer} {r : Ring} → AllEnded s (c .object) E-DLT u → AllEnded u (16 + c .object) E-DLT w → ring.Empty 0 r → y ≡ finished E-OK 0 0 0
       → Performs del-dtq s c (record { state = with-queue (c .object) (record { defined = false; attribute = 0; ring = r }) w; answer = y })
-  unfolding run one-of
-  deletes-queue a {u} {w} {y} {r} e f none ok = performs del-dtq a (rw (the-queue-is (numbered-call a) tt) (record {
-    becomes = record { rows-are = b .rows-are ∙ ap (λ o. o .state) (sym run-is); counter-is = b .counter-is ∙ (B .counter-is ∙ A .counter-is); readable = b .readable };
-    answer-is = ok ∙ ap (λ o. o .answer) (sym run-is);
-  }))
+  unfolding one-of
+  deletes-queue a {u} {w} {y} {r} e f none ok = performs a del-dtq (rw (the-queue-is a tt) (does-rest run-is (B .counter-is ∙ A .counter-is) (does (after-put (after-return (b, ok))))))
     where
       q : ℕ
       q = c .object
@@ -205,7 +187,7 @@ module _ {s : State} {c : Call} where
       → sender ≡ headD (chain-list s (c .object)) 0 → receiver ≡ headD (chain-list s (16 + c .object)) 0 → count ≡ length (stored (queue-at s (c .object) .ring))
       → Performs ref-dtq s c (record { state = s; answer = y })
   unfolding one-of
-  refers-to-queue a {sender} {receiver} {count} {y} e p q n = performs ref-dtq a (rw (the-queue-is (numbered-call a) tt) (stays (a .sound .readable) (e ∙ words)))
+  refers-to-queue a {sender} {receiver} {count} {y} e p q n = performs a ref-dtq (rw (the-queue-is a tt) (stays (a .sound .readable) (e ∙ words)))
     where
       x : QueueRow
       x = abs s .rows (queue (c .object))

@@ -1,2 +1,4 @@
 pub mod Laws
+pub mod Sending
+pub mod Receiving
 pub mod Calls

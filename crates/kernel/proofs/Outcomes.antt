@@ -97,19 +97,12 @@ module _ {s : State} {c : Call} {r : Step} where
         }
 
     pub follows-accepted : T (not (refused true (view-of (abs s .rows) c) c)) → Performs effect s c r → Follows s c r
-    follows-accepted t p = record {
-      answer-is = p .answer-is ∙ ap (λ o. o .answer) (sym done);
-      meaning-is = meaning;
-      sound = kept-sound c S (p .becomes .readable) meaning;
-      unchanged = λ n u. absurd (T-not (refused true (view-of (abs s .rows) c) c) t u);
-    }
-      where
-        -- The call's step is its effect's run.
-        done : step (abs s) c ≡ record {
-          state = record { environment = abs s .environment; rows = run same-key (effect (abs s .environment) (view-of (abs s .rows) c) c) (abs s .rows) .state };
-          answer = run same-key (effect (abs s .environment) (view-of (abs s .rows) c) c) (abs s .rows) .answer;
+    follows-accepted t p =
+        let done = sym (accepted-step (abs s) c (no-eqb some) t) in
+        let meaning : abs (r .state) ≡ step (abs s) c .state = same-model (p .becomes) ∙ ap (λ o. o .state) done in
+        record {
+          answer-is = p .answer-is ∙ ap (λ o. o .answer) done;
+          meaning-is = meaning;
+          sound = kept-sound c S (p .becomes .readable) meaning;
+          unchanged = λ n u. absurd (T-not (refused true (view-of (abs s .rows) c) c) t u);
         }
-        done = accepted-step (abs s) c (no-eqb some) t
-
-        meaning : abs (r .state) ≡ step (abs s) c .state
-        meaning = same-model (p .becomes) ∙ ap (λ o. o .state) (sym done)

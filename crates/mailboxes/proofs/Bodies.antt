@@ -1,6 +1,6 @@
 -- What the bodies ask and leave: the promises of the chains and of the waits, followed along each program.
 use mathlib.Core.Path.{_≡_, refl, sym, ap, _∙_, subst}
-use mathlib.Core.Bool.{Bool, true, false, not, cond, _||_}
+use mathlib.Core.Bool.{Bool, true, false, cond, _||_}
 use mathlib.Core.List.{List, [], _∷_, map, headD, List·Memᴰ as In}
 use mathlib.Core.Logic.{_≢_}
 use Prim.Native.Nat.{ℕ, _+_, _≤_}
@@ -10,7 +10,7 @@ use lib.ListN.{length, getD, set, length-set, length-map}
 use Rattle.lists.specs.Lists.{empty, one-of}
 use Rattle.lists.proofs.Stands.{in-head}
 use Rattle.lists.proofs.Tests.{is-eqb, passed-test}
-use Rattle.rows.specs.Program.{update, run}
+use Rattle.rows.specs.Program.{update}
 use Rattle.rows.proofs.Run.{run-yes, run-no}
 use Rattle.chain.specs.Table.{lists, chain-of, keys-of}
 use Rattle.chain.specs.Changes.{HasChain, Insertable, Inserted, Popped}
@@ -27,45 +27,26 @@ use Rattle.model.specs.declared.Code.the-variants.{Ok as E-OK}
 use Rattle.model.proofs.Choices.{cond-yes}
 use Rattle.model.proofs.Tests.{from-within, to-within}
 use Rattle.model.proofs.WaitMoves.{defined-mailbox}
-use Rattle.model.proofs.After.{After, after-return, after-get, after-put, after-get-each}
+use Rattle.model.proofs.After.{after-return, after-get, after-put, after-get-each}
 use Rattle.parts.specs.Chains.{message-chains, messages-in}
 use Rattle.parts.proofs.Empty.{chain-zero}
 use Rattle.record.specs.declared.State.{State}
 use Rattle.record.specs.declared.Step.{Step}
 use Rattle.record.specs.Meaning.{mailbox-at, keeps-priorities, abs}
 use Rattle.record.specs.Meaning as meaning
-use Rattle.record.specs.Step.{Becomes, Does}
+use Rattle.record.specs.Step.{Does}
 use Rattle.record.proofs.Rows.{row-is}
 use Rattle.record.proofs.Standing.{messages-are}
 use Rattle.record.proofs.Keys.{kept-priorities-are}
+use Rattle.record.proofs.Laws.{does, does-rest}
 use Rattle.record.proofs.Laws as laws
 use Rattle.waits.specs.Waiting.{chain-list, ChainOf, OnChain, Releasable, Released, Joinable, Joined}
-use Rattle.waits.proofs.Laws.{rows-of, standing-chain}
+use Rattle.waits.proofs.Laws.{rows-of, some-head, chain-of-queue}
+use Rattle.waits.proofs.Laws as waits
 use Rattle.mailboxes.specs.Bodies.{mailbox-in, OnMailbox, Deliverable, Queueable, Takeable, Waitable}
 use Rattle.mailboxes.proofs.Laws.{has-messages, message-inserted, message-popped}
 
--- ── Steps ──
-
--- A step does what a program leaves and returns.
-pub does : {p : Effect} {s : State} {r : Step} → After (λ n a. Becomes s n (r .state) × (r .answer ≡ a)) p (abs s .rows) → Does p s r
-does h = record { becomes = h .holds .0; answer-is = h .holds .1 }
-
--- A step that does what is left of a program on the record so far does the program.
-pub does-rest : {p q : Effect} {s u : State} {r : Step} → run same-key p (abs s .rows) ≡ run same-key q (abs u .rows) → u .counter ≡ s .counter → Does q u r → Does p s r
-does-rest e f d = record {
-  becomes = rw e (record { rows-are = d .becomes .rows-are; counter-is = d .becomes .counter-is ∙ f; readable = d .becomes .readable });
-  answer-is = d .answer-is ∙ sym (ap (λ o. o .answer) e);
-}
-
--- A list whose first number isn't 0 has a head.
-pub has-head : {n : ℕ} (l : List ℕ) → n ≡ headD l 0 → n ≢ 0 → T (not (empty l))
-unfolding empty headD
-has-head [] e f = absurd (f e)
-has-head (x ∷ l) e f = tt
-
-pub nobody : {l : List ℕ} → l ≡ [] → T (not (not (empty l)))
-unfolding empty
-nobody e = rw e tt
+-- ── Tests ──
 
 -- The code's test of two attributes is the definition's.
 pub either : (n x y : ℕ) → (eqb n x || eqb n y) ≡ one-of n (x ∷ y ∷ [])
@@ -103,7 +84,7 @@ module _ {s : State} {b : ℕ} (a : OnMailbox s b) where
   own-chain = record { valid-object = valid-number; chain-is = refl }
 
   pub waiters-are : mailbox-in s b .waiters ≡ chain-list s (32 + b)
-  waiters-are = standing-chain s (waiters-of b) valid-number
+  waiters-are = chain-of-queue on-waiters (waiters-of b) own-chain
 
   pub on-messages : HasChain message-limit message-chains b (s .messages .link)
   on-messages = has-messages (a .sound .readable) b valid-number
@@ -116,7 +97,7 @@ module _ {s : State} {b : ℕ} (a : OnMailbox s b) where
 
 module _ {s : State} {b : ℕ} (a : Deliverable s b) where
   pub releasable : Releasable s (32 + b)
-  releasable = record { on = on-waiters (a .on); someone = rw (waiters-are (a .on)) at (a .someone) }
+  releasable = waits.releasable (on-waiters (a .on)) (waiters-of b) (own-chain (a .on)) (a .someone)
 
   pub delivered : {g : ℕ} {r : State} → Released s (32 + b) g r → Does (deliver-message b (mailbox-in s b) g) s (record { state = r; answer = finished E-OK 0 0 0 })
   unfolding deliver-message release set-standing same-key update
@@ -218,7 +199,7 @@ module _ {s : State} {b g priority : ℕ} (a : Queueable s b g priority) where
 
 module _ {s : State} {b : ℕ} (a : OnMailbox s b) {head : ℕ} (head-is : head ≡ headD (getD (lists message-limit message-chains (s .messages .link)) b []) 0) where
   pub head-takeable : head ≢ 0 → Takeable s b
-  head-takeable some = record { on = a; something = rw (queued-are a) (has-head _ head-is some) }
+  head-takeable some = record { on = a; something = rw (queued-are a) (some-head _ head-is some) }
 
   module _ (otherwise : Effect) {r : Step} where
     pub received-head : head ≢ 0 → Does (take-message b (mailbox-in s b)) s r → Does (receive-message b (mailbox-in s b) otherwise) s r
@@ -226,5 +207,5 @@ module _ {s : State} {b : ℕ} (a : OnMailbox s b) {head : ℕ} (head-is : head 
     received-head some d = does-rest (run-yes same-key _ _ _ _ (head-takeable some .something)) refl d
 
     pub received-none : head ≡ 0 → Does otherwise s r → Does (receive-message b (mailbox-in s b) otherwise) s r
-    unfolding receive-message
-    received-none none d = does-rest (run-no same-key _ _ _ _ (nobody (queued-are a ∙ chain-zero (on-messages a) head-is .then-empty none))) refl d
+    unfolding receive-message empty
+    received-none none d = does-rest (run-no same-key _ _ _ _ (rw (queued-are a, chain-zero (on-messages a) head-is .then-empty none) tt)) refl d

@@ -5,7 +5,7 @@ use mathlib.Core.List.{List, [], tail, List·Memᴰ as In, List·Memᴰ·not-nil
 use mathlib.Core.Logic.{_≢_}
 use Prim.Native.Nat.{ℕ, _<_}
 use native.Mathlib.Omega.{arith}
-use lib.Dec.{T, T-not, eqb}
+use lib.Dec.{T, eqb}
 use lib.ListN.{length, getD, set, length-set}
 use lib.Seq.{getD-set-same, getD-set-other}
 use borrow.Author.Tests.{eq-eqb, ne-eqb}
@@ -19,7 +19,7 @@ use Rattle.chain.specs.Changes.{HasChain, Changed, Insertable, Inserted, Popped
 use Rattle.chain.proofs.Standing.{stands-there, new-list, other-list}
 use Rattle.chain.proofs.Laws.{inserted-standing, popped-standing, cleared-standing}
 use Rattle.model.specs.Sizes.{mailbox-limit, message-limit}
-use Rattle.model.specs.Rows.{Key, task, suspension, queue, mailbox, message, same-key, valid, Row, MessageRow, free, nothing, with-messages}
+use Rattle.model.specs.Rows.{Key, task, suspension, queue, mailbox, message, same-key, valid, MessageRow, free, with-messages}
 use Rattle.model.specs.WellFormed.{waiters-of}
 use Rattle.model.proofs.Tests.{from-within, to-within}
 use Rattle.model.proofs.RowMoves.{with-message-rows, freed}
@@ -30,23 +30,10 @@ use Rattle.record.specs.declared.State.{State}
 use Rattle.record.specs.Meaning.{no-mailbox-cell, mailbox-at, mailbox-of, keeps-priorities, message-row, cells-of, abs}
 use Rattle.record.specs.Sound.{Readable}
 use Rattle.record.specs.Step.{Becomes}
-use Rattle.record.proofs.Rows.{row-is, row-cases}
+use Rattle.record.proofs.Rows.{row-is}
 use Rattle.record.proofs.Standing.{messages-are, in-mailbox}
-use Rattle.record.proofs.Laws.{with-mailbox, changed-row}
+use Rattle.record.proofs.Laws.{with-mailbox, same-row, changed-row, two-rows}
 use Rattle.record.proofs.Laws as laws
-
--- ── Which rows ──
-
--- A row of a number whose cells say the same is the same.
-same-row : (s r : State) (k : Key) → (T (valid k) → cells-of r k ≡ cells-of s k) → abs r .rows k ≡ abs s .rows k
-same-row s r k e = row-cases s k (λ x. abs r .rows k ≡ x) (λ v. row-is r k v ∙ e v) (λ n. row-cases r k (λ x. x ≡ nothing k) (λ v. absurd (T-not (valid k) n v)) (λ m. refl))
-
--- A record whose cells differ from another's at two valid numbers means the other's rows with those two changed.
-two-rows : (s r : State) (k j : Key) (v : Row k) (w : Row j) → T (valid k) → T (valid j) → cells-of r k ≡ v → cells-of r j ≡ w
-    → ((i : Key) → i ≢ k → i ≢ j → T (valid i) → cells-of r i ≡ cells-of s i) → abs r .rows ≡ update same-key j w (update same-key k v (abs s .rows))
-two-rows s r k j v w valid-k valid-j new-k new-j old =
-    fun-ext (λ i. update-cases same-key (λ h x. abs r .rows h ≡ x) j w (update same-key k v (abs s .rows)) (row-is r j valid-j ∙ new-j) i
-    (λ n. update-cases same-key (λ h x. h ≢ j → abs r .rows h ≡ x) k v (abs s .rows) (λ o. row-is r k valid-k ∙ new-k) i (λ m o. same-row s r i (old i m o)) n))
 
 -- ── The record's messages ──
 

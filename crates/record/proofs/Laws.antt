@@ -12,7 +12,6 @@ use lib.Seq.{getD-set-same, getD-set-other}
 use Rattle.rows.specs.Program as Program
 use Rattle.rows.specs.Program.{return, update, run}
 use Rattle.rows.proofs.Update.{update-cases}
-use Rattle.chain.specs.Table as chain
 use Rattle.chain.specs.Changes.{HasChain, Changed}
 use Rattle.chain.specs.declared.Chains.{Chains}
 use Rattle.chain.proofs.Standing.{new-list, other-list}
@@ -21,6 +20,7 @@ use Rattle.model.specs.Sizes.{task-limit, queue-limit}
 use Rattle.model.specs.Rows.{Key, task, suspension, queue, mailbox, message, same-key, valid, Row, Effect, nothing}
 use Rattle.model.specs.WellFormed.{WaitQueue, senders-of, receivers-of, waiters-of, object-of, set-standing}
 use Rattle.model.specs.declared.Answer.{Answer}
+use Rattle.model.proofs.After.{After, after-return}
 use Rattle.model.proofs.Tests.{from-within}
 use Rattle.parts.specs.Chains.{task-chains, chain-number, tasks-in}
 use Rattle.parts.specs.Tasks.{task-row}
@@ -55,15 +55,26 @@ with-messages x s = record { counter = s .counter; tasks = s .tasks; waiting = s
 
 -- ── Which row ──
 
--- A record whose cells differ from another's at one valid number means the other's rows with that one changed.
-pub changed-row : (s r : State) (k : Key) (v : Row k) → T (valid k) → cells-of r k ≡ v → ((j : Key) → j ≢ k → T (valid j) → cells-of r j ≡ cells-of s j)
-    → abs r .rows ≡ update same-key k v (abs s .rows)
+-- A row of a number whose cells say the same is the same.
+pub same-row : (s r : State) (k : Key) → (T (valid k) → cells-of r k ≡ cells-of s k) → abs r .rows k ≡ abs s .rows k
 unfolding abs
-changed-row s r k v ok new old = fun-ext (λ j. update-cases same-key (λ i x. abs r .rows i ≡ x) k v (abs s .rows) (row-is r k ok ∙ new) j (λ n. kept (valid j) (nothing j) (old j n)))
+same-row s r k e = kept (valid k) (nothing k) e
   where
     kept : {X : Type 0} {x y : X} (b : Bool) (d : X) → (T b → x ≡ y) → cond b x d ≡ cond b y d
     kept true d e = e tt
     kept false d e = refl
+
+-- A record whose cells differ from another's at one valid number means the other's rows with that one changed.
+pub changed-row : (s r : State) (k : Key) (v : Row k) → T (valid k) → cells-of r k ≡ v → ((j : Key) → j ≢ k → T (valid j) → cells-of r j ≡ cells-of s j)
+    → abs r .rows ≡ update same-key k v (abs s .rows)
+changed-row s r k v ok new old = fun-ext (λ j. update-cases same-key (λ i x. abs r .rows i ≡ x) k v (abs s .rows) (row-is r k ok ∙ new) j (λ n. same-row s r j (old j n)))
+
+-- The same at two valid numbers.
+pub two-rows : (s r : State) (k j : Key) (v : Row k) (w : Row j) → T (valid k) → T (valid j) → cells-of r k ≡ v → cells-of r j ≡ w
+    → ((i : Key) → i ≢ k → i ≢ j → T (valid i) → cells-of r i ≡ cells-of s i) → abs r .rows ≡ update same-key j w (update same-key k v (abs s .rows))
+two-rows s r k j v w valid-k valid-j new-k new-j old =
+    fun-ext (λ i. update-cases same-key (λ h x. abs r .rows h ≡ x) j w (update same-key k v (abs s .rows)) (row-is r j valid-j ∙ new-j) i
+    (λ n. update-cases same-key (λ h x. h ≢ j → abs r .rows h ≡ x) k v (abs s .rows) (λ o. row-is r k valid-k ∙ new-k) i (λ m o. same-row s r i (old i m o)) n))
 
 -- Two changes in a row.
 pub and-then : {s r u : State} {m n : Program.Rows Row} → Becomes s m r → Becomes r n u → Becomes s n u
@@ -212,11 +223,17 @@ module _ {s : State} (R : Readable s) (q : ℕ) (ok : T (valid (queue q))) (x : 
 
 -- ── What a step does ──
 
--- A program that runs as another does is done by the same step.
-pub does-as : {p p' : Effect} {s : State} {r : Step} → run same-key p (abs s .rows) ≡ run same-key p' (abs s .rows) → Does p' s r → Does p s r
-does-as e d = record { becomes = rw e (d .becomes); answer-is = rw e (d .answer-is) }
+-- A step does what a program leaves and returns.
+pub does : {p : Effect} {s : State} {r : Step} → After (λ n a. Becomes s n (r .state) × (r .answer ≡ a)) p (abs s .rows) → Does p s r
+does h = record { becomes = h .holds .0; answer-is = h .holds .1 }
+
+-- A step that does what is left of a program on the record so far does the program.
+pub does-rest : {p q : Effect} {s u : State} {r : Step} → run same-key p (abs s .rows) ≡ run same-key q (abs u .rows) → u .counter ≡ s .counter → Does q u r → Does p s r
+does-rest e f d = record {
+  becomes = rw e (record { rows-are = d .becomes .rows-are; counter-is = d .becomes .counter-is ∙ f; readable = d .becomes .readable });
+  answer-is = rw e (d .answer-is);
+}
 
 -- A program that only answers leaves the record as it is.
 pub stays : {s : State} {x y : Answer} → Readable s → y ≡ x → Does (return x) s (record { state = s; answer = y })
-unfolding run
-stays R e = record { becomes = record { rows-are = refl; counter-is = refl; readable = R }; answer-is = e }
+stays R e = does (after-return (record { rows-are = refl; counter-is = refl; readable = R }, e))

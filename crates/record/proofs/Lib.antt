@@ -5,7 +5,6 @@ pub mod Standing
 pub mod Keys
 pub mod Laws
 pub mod Accepted
-pub mod Numbered
 pub mod Parts
 pub mod Equal
 pub mod Empty

@@ -12,6 +12,10 @@ pub passes-or-not : {P : Type 0} (b : Bool) → (T b → P) → (T (not b) → P
 passes-or-not true y n = y tt
 passes-or-not false y n = n tt
 
+pub yes-not-not : (b : Bool) → T b → T (not (not b))
+yes-not-not true t = tt
+yes-not-not false t = absurd t
+
 -- A choice has whatever both sides have.
 pub cond-cases : {X : Type 0} (P : X → Type 0) (b : Bool) {x y : X} → (T b → P x) → (T (not b) → P y) → P (cond b x y)
 cond-cases P true p q = p tt

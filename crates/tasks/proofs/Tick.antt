@@ -27,9 +27,9 @@ use Rattle.record.specs.Meaning.{task-at, abs}
 use Rattle.record.specs.Sound.{Readable, Sound}
 use Rattle.record.proofs.Rows.{row-is}
 use Rattle.waits.specs.Waiting.{Endable, Ended}
-use Rattle.waits.proofs.Laws.{rows-of, counter-inside, endable}
+use Rattle.waits.proofs.Laws.{rows-of, counter-inside}
+use Rattle.waits.proofs.Ends.{endable, end-becomes, end-runs, end-kept, end-able}
 use Rattle.tasks.specs.Tick.{Ticked}
-use Rattle.tasks.proofs.Laws.{end-becomes, end-runs, end-kept, end-able}
 
 -- ── The counter ──
 
@@ -119,14 +119,11 @@ module _ {counter : ℕ} {s₀ s : State} {n t : ℕ} (i : Ticking counter s₀ 
 
   -- The wait ends.
   module _ (d : due counter (wait-end (task-at s t .wait)) ≡ true) where
-    task-waits : T (not (able (task-at s t .wait)))
-    task-waits = due-waits counter (task-at s t .wait) (rw d tt)
+    waits : T (not (able (abs s .rows (task t) .wait)))
+    waits = rw wait-is (due-waits counter (task-at s t .wait) (rw d tt))
 
     pub turn-endable : Endable s t
-    turn-endable = endable (i .readable) (i .rows) t turn-valid task-waits
-
-    waits : T (not (able (abs s .rows (task t) .wait)))
-    waits = rw wait-is task-waits
+    turn-endable = endable (i .readable) (i .rows) t turn-valid waits
 
     pub turn-ends : {r : State} → Ended s t E-TMOUT r → Ticking counter s₀ r (n + 1) (t + 1)
     turn-ends {r} e =

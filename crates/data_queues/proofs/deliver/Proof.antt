@@ -1,10 +1,10 @@
 -- `deliver` hands the word to the head receiver: by what a release promises.
 use native.Mathlib.Omega.{arith}
-use Rattle.model.specs.Codes.{finished}
 use Rattle.model.specs.WellFormed.{receivers-of}
 use Rattle.waits.proofs.Laws.{releasable}
 use borrow.Author.Needs.{needs}
-use Rattle.data_queues.proofs.Laws.{queue-range, on-receivers, receivers-chain, delivers}
+use Rattle.data_queues.proofs.Laws.{queue-range, on-receivers, receivers-chain}
+use Rattle.data_queues.proofs.Sending.{delivers}
 use Rattle.data_queues.proofs.deliver.Statement.{statement}
 use Rattle.data_queues.proofs.deliver.Tie as tie
 

@@ -1,17 +1,18 @@
 -- `receive` goes through its cases in order: each test says which branch the program takes.
-use Rattle.model.specs.Codes.{finished}
+use native.Mathlib.Omega.{arith}
 use Rattle.record.proofs.Laws.{stays}
 use Rattle.waits.proofs.Laws.{has-chain}
 use borrow.Author.Needs.{needs}
-use Rattle.data_queues.proofs.Laws.{queue-fits, queue-offset, on-senders, words-stored, nothing-stored, no-sender, some-sender, receives-oldest, receives-and-refills, receives-from-sender, receives-otherwise}
+use Rattle.data_queues.proofs.Laws.{queue-range, on-senders, words-stored, nothing-stored, no-sender, some-sender}
+use Rattle.data_queues.proofs.Receiving.{receives-oldest, receives-and-refills, receives-from-sender, receives-otherwise}
 use Rattle.data_queues.proofs.receive.Statement.{statement}
 use Rattle.data_queues.proofs.receive.Tie as tie
 
 mul-queue : tie.Need-mul-queue
-mul-queue c = queue-offset (c .pre .0)
+mul-queue c = let h = queue-range (c .pre .0) in omega arith
 
 element-copy-out-queue : tie.Need-element-copy-out-queue
-element-copy-out-queue c = queue-fits (c .pre .0)
+element-copy-out-queue c = let h = queue-range (c .pre .0) in omega arith
 
 first-requires : tie.Need-first-requires
 first-requires c κs = has-chain (on-senders (c .before .before .before .before .pre .0))
@@ -20,22 +21,40 @@ length-requires : tie.Need-length-requires
 length-requires c κs = search needs
 
 take-oldest-requires : tie.Need-take-oldest-requires
-take-oldest-requires c κs = let a = c .before .before .before .before .before .before .before .before .pre .0 in (a, words-stored a (c .before .before .length .ensures) (c .before .if1 .taken))
+take-oldest-requires c κs =
+    let words = c .before in
+    let a = words .before .before .before .before .before .before .before .pre .0 in
+    (a, words-stored a (words .before .length .ensures) (words .if1 .taken))
 
 returns : tie.Need-returns
-returns c = let a = c .before .before .before .before .before .before .before .before .before .pre .0 in receives-oldest a _ (words-stored a (c .before .before .before .length .ensures) (c .before .before .if1 .taken)) (no-sender a (c .before .before .before .before .first .ensures) (c .before .if2 .taken)) (c .take-oldest .ensures)
+returns c =
+    let words = c .before .before in
+    let a = words .before .before .before .before .before .before .before .pre .0 in
+    receives-oldest a _ (words-stored a (words .before .length .ensures) (words .if1 .taken)) (no-sender a (words .before .before .first .ensures) (c .before .if2 .taken)) (c .take-oldest .ensures)
 
 take-oldest-and-refill-requires : tie.Need-take-oldest-and-refill-requires
-take-oldest-and-refill-requires c κs = let a = c .before .before .before .before .before .before .before .before .pre .0 in (a, words-stored a (c .before .before .length .ensures) (c .before .if1 .taken), some-sender a (c .before .before .before .first .ensures) (c .if2 .left))
+take-oldest-and-refill-requires c κs =
+    let words = c .before in
+    let a = words .before .before .before .before .before .before .before .pre .0 in
+    (a, words-stored a (words .before .length .ensures) (words .if1 .taken), some-sender a (words .before .before .first .ensures) (c .if2 .left))
 
 returns-2 : tie.Need-returns-2
-returns-2 c = let a = c .before .before .before .before .before .before .before .before .before .pre .0 in receives-and-refills a _ (words-stored a (c .before .before .before .length .ensures) (c .before .before .if1 .taken)) (some-sender a (c .before .before .before .before .first .ensures) (c .before .if2 .left)) (c .take-oldest-and-refill .ensures)
+returns-2 c =
+    let words = c .before .before in
+    let a = words .before .before .before .before .before .before .before .pre .0 in
+    receives-and-refills a _ (words-stored a (words .before .length .ensures) (words .if1 .taken)) (some-sender a (words .before .before .first .ensures) (c .before .if2 .left)) (c .take-oldest-and-refill .ensures)
 
 take-from-sender-requires : tie.Need-take-from-sender-requires
-take-from-sender-requires c κs = let a = c .before .before .before .before .before .before .before .before .pre .0 in (a, some-sender a (c .before .before .before .first .ensures) (c .if3 .taken))
+take-from-sender-requires c κs =
+    let none = c .before in
+    let a = none .before .before .before .before .before .before .before .pre .0 in
+    (a, some-sender a (none .before .before .first .ensures) (c .if3 .taken))
 
 returns-3 : tie.Need-returns-3
-returns-3 c = let a = c .before .before .before .before .before .before .before .before .before .pre .0 in receives-from-sender a _ (nothing-stored a (c .before .before .before .length .ensures) (c .before .before .if1 .left)) (some-sender a (c .before .before .before .before .first .ensures) (c .before .if3 .taken)) (c .take-from-sender .ensures)
+returns-3 c =
+    let none = c .before .before in
+    let a = none .before .before .before .before .before .before .before .pre .0 in
+    receives-from-sender a _ (nothing-stored a (none .before .length .ensures) (none .if1 .left)) (some-sender a (none .before .before .first .ensures) (c .before .if3 .taken)) (c .take-from-sender .ensures)
 
 enum-told : tie.Need-enum-told
 enum-told c = search needs
@@ -47,13 +66,23 @@ enum-known-empty : tie.Need-enum-known-empty
 enum-known-empty c = search needs
 
 wait-to-receive-requires : tie.Need-wait-to-receive-requires
-wait-to-receive-requires c κs = (c .before .before .before .before .before .before .before .before .before .before .before .pre .0, rw (c .before .empty .given .1) at (c .before .before .before .before .before .before .before .before .before .before .before .pre .1))
+wait-to-receive-requires c κs =
+    let start = c .before .before .before .before .before .before .before .before .before .before .before in
+    (start .pre .0, rw (c .before .empty .given .1) at (start .pre .1))
 
 returns-4 : tie.Need-returns-4
-returns-4 c = let a = c .before .before .before .before .before .before .before .before .before .before .before .pre .0 in receives-otherwise a _ (nothing-stored a (c .before .before .before .before .before .length .ensures) (c .before .before .before .before .if1 .left)) (no-sender a (c .before .before .before .before .before .before .first .ensures) (c .before .before .before .if3 .left)) (rw (c .before .enum-told .given .1) (stays (a .sound .readable) (c .finished .ensures)))
+returns-4 c =
+    let none = c .before .before .before .before in
+    let a = none .before .before .before .before .before .before .before .pre .0 in
+    receives-otherwise a _ (nothing-stored a (none .before .length .ensures) (none .if1 .left)) (no-sender a (none .before .before .first .ensures) (c .before .before .before .if3 .left))
+    (rw (c .before .enum-told .given .1) (stays (a .sound .readable) (c .finished .ensures)))
 
 returns-5 : tie.Need-returns-5
-returns-5 c = let a = c .before .before .before .before .before .before .before .before .before .before .before .before .pre .0 in receives-otherwise a _ (nothing-stored a (c .before .before .before .before .before .before .length .ensures) (c .before .before .before .before .before .if1 .left)) (no-sender a (c .before .before .before .before .before .before .before .first .ensures) (c .before .before .before .before .if3 .left)) (rw (c .before .before .empty .given .1) (c .wait-to-receive .ensures))
+returns-5 c =
+    let none = c .before .before .before .before .before in
+    let a = none .before .before .before .before .before .before .before .pre .0 in
+    receives-otherwise a _ (nothing-stored a (none .before .length .ensures) (none .if1 .left)) (no-sender a (none .before .before .first .ensures) (c .before .before .before .before .if3 .left))
+    (rw (c .before .before .empty .given .1) (c .wait-to-receive .ensures))
 
 pub receive-spec : {M : Type 1} → statement M
 receive-spec =

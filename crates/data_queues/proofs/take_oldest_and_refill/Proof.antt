@@ -1,10 +1,11 @@
 -- `take_oldest_and_refill` hands out the oldest word, stores the head sender's and releases it: by what the ring and a release promise.
 use mathlib.Core.Path.{_∙_}
-use Rattle.model.specs.Codes.{finished}
+use native.Mathlib.Omega.{arith}
 use Rattle.model.specs.WellFormed.{senders-of}
 use Rattle.waits.proofs.Laws.{has-chain, releasable}
 use borrow.Author.Needs.{needs}
-use Rattle.data_queues.proofs.Laws.{queue-fits, queue-offset, ring-in-range, on-senders, senders-chain, some-word, room-again, sender-fits, sender-offset, sender-word, takes-oldest-and-refills}
+use Rattle.data_queues.proofs.Laws.{queue-range, ring-in-range, on-senders, senders-chain, some-word}
+use Rattle.data_queues.proofs.Receiving.{room-again, sender-range, sender-word, takes-oldest-and-refills}
 use Rattle.data_queues.proofs.take_oldest_and_refill.Statement.{statement}
 use Rattle.data_queues.proofs.take_oldest_and_refill.Tie as tie
 
@@ -15,19 +16,19 @@ cast-sender : tie.Need-cast-sender
 cast-sender c = search needs
 
 mul-task : tie.Need-mul-task
-mul-task c = sender-offset (c .before .before .before .pre .0) (c .first .ensures) (c .before .before .before .pre .2)
+mul-task c = let h = sender-range (c .before .before .before .pre .0) (c .first .ensures) (c .before .before .before .pre .2) in omega arith
 
 element-copy-out-task : tie.Need-element-copy-out-task
-element-copy-out-task c = sender-fits (c .before .before .before .pre .0) (c .first .ensures) (c .before .before .before .pre .2)
+element-copy-out-task c = let h = sender-range (c .before .before .before .pre .0) (c .first .ensures) (c .before .before .before .pre .2) in omega arith
 
 mul-queue : tie.Need-mul-queue
-mul-queue c = queue-offset (c .before .before .before .before .pre .0)
+mul-queue c = let h = queue-range (c .before .before .before .before .pre .0) in omega arith
 
 element-copy-out-queue : tie.Need-element-copy-out-queue
-element-copy-out-queue c = queue-fits (c .before .before .before .before .pre .0)
+element-copy-out-queue c = let h = queue-range (c .before .before .before .before .pre .0) in omega arith
 
 pop-requires : tie.Need-pop-requires
-pop-requires c κs = (ring-in-range (c .before .before .before .before .before .pre .0), some-word (c .before .before .before .before .before .pre .0) (c .before .before .before .before .before .pre .1))
+pop-requires c κs = let start = c .before .before .before .before .before in (ring-in-range (start .pre .0), some-word (start .pre .0) (start .pre .1))
 
 held-word-requires : tie.Need-held-word-requires
 held-word-requires c κs = search needs
@@ -36,19 +37,27 @@ push-requires : tie.Need-push-requires
 push-requires c κs = (c .before .pop .ensures .kept .in-range, room-again (c .before .before .before .before .before .before .before .pre .0) (c .before .pop .ensures))
 
 release-requires : tie.Need-release-requires
-release-requires c κs = releasable (on-senders (c .before .before .before .before .before .before .before .before .pre .0)) (senders-of _) (senders-chain (c .before .before .before .before .before .before .before .before .pre .0)) (c .before .before .before .before .before .before .before .before .pre .2)
+release-requires c κs =
+    let start = c .before .before .before .before .before .before .before .before in
+    releasable (on-senders (start .pre .0)) (senders-of _) (senders-chain (start .pre .0)) (start .pre .2)
 
 mul-t14 : tie.Need-mul-t14
-mul-t14 c = queue-offset (c .before .before .before .before .before .before .before .before .before .pre .0)
+mul-t14 c = let h = queue-range (c .before .before .before .before .before .before .before .before .before .pre .0) in omega arith
 
 element-set-from-released : tie.Need-element-set-from-released
-element-set-from-released c = queue-fits (c .before .before .before .before .before .before .before .before .before .pre .0)
+element-set-from-released c = let h = queue-range (c .before .before .before .before .before .before .before .before .before .pre .0) in omega arith
 
 finished-requires : tie.Need-finished-requires
 finished-requires c κs = search needs
 
 returns : tie.Need-returns
-returns c = let a = c .before .before .before .before .before .before .before .before .before .before .pre .0 in takes-oldest-and-refills a (c .before .before .before .before .pop .ensures) (rw (c .before .before .before .held-word .ensures ∙ sender-word a (c .before .before .before .before .before .before .before .first .ensures) (c .before .before .before .before .before .before .before .before .before .before .pre .2)) at (c .before .before .push .ensures)) (c .before .release .ensures) (c .finished .ensures)
+returns c =
+    let pushed = c .before .before in
+    let popped = pushed .before .before in
+    let head = popped .before .before .before in
+    let start = head .before .before .before in
+    let word-is = pushed .before .held-word .ensures ∙ sender-word (start .pre .0) (head .first .ensures) (start .pre .2) in
+    takes-oldest-and-refills (start .pre .0) (popped .pop .ensures) (rw word-is at (pushed .push .ensures)) (c .before .release .ensures) (c .finished .ensures)
 
 pub take-oldest-and-refill-spec : {M : Type 1} → statement M
 take-oldest-and-refill-spec =

@@ -1,6 +1,7 @@
 -- `wait_to_receive` puts the caller behind the receivers: by what a join promises.
 use native.Mathlib.Omega.{arith}
-use Rattle.data_queues.proofs.Laws.{queue-range, on-receivers, waits-to-receive}
+use Rattle.data_queues.proofs.Laws.{queue-range, on-receivers}
+use Rattle.data_queues.proofs.Receiving.{waits-to-receive}
 use Rattle.data_queues.proofs.wait_to_receive.Statement.{statement}
 use Rattle.data_queues.proofs.wait_to_receive.Tie as tie
 

@@ -1,7 +1,7 @@
 -- `end_of` adds the tmout to the counter, and wraps: by the sign of the tmout.
 use mir.Facts.{toZ-ofZ}
 use borrow.Author.Needs.{needs}
-use Rattle.waits.proofs.Ends.{ends-never, not-negative, size-fits, ends-at}
+use Rattle.waits.proofs.Tmout.{ends-never, not-negative, size-fits, ends-at}
 use Rattle.waits.proofs.end_of.Statement.{statement}
 use Rattle.waits.proofs.end_of.Tie as tie
 

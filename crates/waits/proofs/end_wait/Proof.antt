@@ -1,7 +1,7 @@
 -- `end_wait` takes the task out of the chain that its wait names: the chain's removal, and the task's new cell.
 use native.Mathlib.Omega.{arith}
 use borrow.Author.Needs.{needs}
-use Rattle.waits.proofs.Laws.{endable-range, removable, ended-all}
+use Rattle.waits.proofs.Ends.{endable-range, removable, ended-all}
 use Rattle.waits.proofs.end_wait.Statement.{statement}
 use Rattle.waits.proofs.end_wait.Tie as tie
 

@@ -1,11 +1,11 @@
 -- `end_waits` ends the waits of a chain from its head on. The loop keeps what has been done and what is left; the chain gets shorter.
-use mathlib.Core.Path.{_≡_, refl, sym, _∙_}
+use mathlib.Core.Path.{_≡_}
 use mathlib.Core.List.{headD}
-use Prim.Native.Nat.{ℕ}
 use lib.ListN.{length}
 use Rattle.model.specs.WellFormed.{WaitQueue}
 use Rattle.waits.specs.Waiting.{chain-list, ChainOf, Clearable}
-use Rattle.waits.proofs.Laws.{has-chain, Ending, ending-begins, head-endable, still-clearable, ending-on, shorter, ending-done}
+use Rattle.waits.proofs.Laws.{has-chain}
+use Rattle.waits.proofs.Ends.{Ending, ending-begins, head-endable, still-clearable, ending-on, shorter, ending-done}
 use Rattle.waits.proofs.end_waits.Statement.{statement}
 use Rattle.waits.proofs.end_waits.Tie as tie
 
@@ -44,7 +44,7 @@ loop-again c =
 returns : tie.Need-returns Inv-loop μ-loop
 returns c =
     let i = c .before .loop .inv in
-    record { cleared = λ k o. ending-done (i .0 .on) (sym (i .1) ∙ c .loop-test .left) k o (i .2 k o) }
+    record { cleared = λ k o. ending-done (i .0 .on) (i .1) (c .loop-test .left) k o (i .2 k o) }
 
 pub end-waits-spec : {M : Type 1} → statement M
 end-waits-spec =

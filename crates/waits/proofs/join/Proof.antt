@@ -1,7 +1,7 @@
 -- `join` puts the task into the chain, behind those that its limit passes, and starts the wait: the chain's insert, and the task's new cell.
 use native.Mathlib.Omega.{arith}
 use borrow.Author.Needs.{needs}
-use Rattle.waits.proofs.Laws.{me-range, insertable, place-fits, joined-all}
+use Rattle.waits.proofs.Moves.{me-range, insertable, place-fits, joined-all}
 use Rattle.waits.proofs.join.Statement.{statement}
 use Rattle.waits.proofs.join.Tie as tie
 

@@ -1,7 +1,8 @@
 -- `release` ends the head's wait: the chain's pop, and the head's new cell.
 use native.Mathlib.Omega.{arith}
 use borrow.Author.Needs.{needs}
-use Rattle.waits.proofs.Laws.{has-chain, head-range, released-all}
+use Rattle.waits.proofs.Laws.{has-chain}
+use Rattle.waits.proofs.Moves.{head-range, released-all}
 use Rattle.waits.proofs.release.Statement.{statement}
 use Rattle.waits.proofs.release.Tie as tie
 

@@ -41,19 +41,35 @@ refuse-requires-3 : tie.Need-refuse-requires-3
 refuse-requires-3 c κs = search needs
 
 returns-4 : tie.Need-returns-4
-returns-4 c = let S = went-on (c .before .before .before .before .before .before .before .sound .ensures) (c .before .before .before .before .before .before .if2 .left) in
-    let code = c .before .before .before .refusal .ensures _ (c .before .before .before .before .see .ensures) in
-    stepped-sound (c .before .before .before .before .before .before .before .before .if1 .left) S (follows-refused S (c .before .before .before .before .before .if3 .left) (is-refused (c .before .before .before .before .before .before .before .before .before .before .args .self .state) (c .before .before .before .before .before .before .before .before .before .before .args .call) code (c .before .before .accepts .ensures) (c .before .if4 .taken)) code (c .refuse3 .ensures))
+returns-4 c =
+    let judged = c .before .before in
+    let seen = judged .before .before in
+    let tested = seen .before .before .before in
+    let start = tested .before .before .before in
+    let S = went-on (tested .sound .ensures) (seen .before .before .if2 .left) in
+    let code = judged .before .refusal .ensures _ (seen .see .ensures) in
+    let refused = is-refused (start .args .self .state) (start .args .call) code (judged .accepts .ensures) (c .before .if4 .taken) in
+    stepped-sound (tested .before .if1 .left) S (follows-refused S (seen .before .if3 .left) refused code (c .refuse3 .ensures))
 
 perform-requires : tie.Need-perform-requires
-perform-requires c κs = let some = c .before .before .before .before .if3 .left in
-    let accepted = is-accepted (c .before .before .before .before .before .before .before .before .before .args .self .state) (c .before .before .before .before .before .before .before .before .before .args .call) (c .before .before .refusal .ensures _ (c .before .before .before .see .ensures)) (c .before .accepts .ensures) (c .if4 .left) in
-    record { accepted = record { sound = went-on (c .before .before .before .before .before .before .sound .ensures) (c .before .before .before .before .before .if2 .left); number-is = refl; accepted = accepted }; not-below = omega arith; not-above = c .before .before .before .before .before .before .before .if1 .left }
+perform-requires c κs =
+    let seen = c .before .before .before in
+    let tested = seen .before .before .before in
+    let start = tested .before .before .before in
+    let S = went-on (tested .sound .ensures) (seen .before .before .if2 .left) in
+    let accepted = is-accepted (start .args .self .state) (start .args .call) (c .before .before .refusal .ensures _ (seen .see .ensures)) (c .before .accepts .ensures) (c .if4 .left) in
+    let some = seen .before .if3 .left in
+    record { accepted = record { sound = S; number-is = refl; accepted = accepted }; not-below = omega arith; not-above = tested .before .if1 .left }
 
 returns-5 : tie.Need-returns-5
-returns-5 c = let S = went-on (c .before .before .before .before .before .before .before .sound .ensures) (c .before .before .before .before .before .before .if2 .left) in
-    let accepted = is-accepted (c .before .before .before .before .before .before .before .before .before .before .args .self .state) (c .before .before .before .before .before .before .before .before .before .before .args .call) (c .before .before .before .refusal .ensures _ (c .before .before .before .before .see .ensures)) (c .before .before .accepts .ensures) (c .before .if4 .left) in
-    stepped-sound (c .before .before .before .before .before .before .before .before .if1 .left) S (follows-accepted S (c .before .before .before .before .before .if3 .left) accepted (c .perform .ensures))
+returns-5 c =
+    let judged = c .before .before in
+    let seen = judged .before .before in
+    let tested = seen .before .before .before in
+    let start = tested .before .before .before in
+    let S = went-on (tested .sound .ensures) (seen .before .before .if2 .left) in
+    let accepted = is-accepted (start .args .self .state) (start .args .call) (judged .before .refusal .ensures _ (seen .see .ensures)) (judged .accepts .ensures) (c .before .if4 .left) in
+    stepped-sound (tested .before .if1 .left) S (follows-accepted S (seen .before .if3 .left) accepted (c .perform .ensures))
 
 pub step-spec : {M : Type 1} → statement M
 step-spec =

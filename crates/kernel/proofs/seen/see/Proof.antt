@@ -76,12 +76,22 @@ see-message-requires : tie.Need-see-message-requires
 see-message-requires c κs = c .before .before .before .before .before .before .before .before .before .before .before .before .before .before .before .before .before .before .before .before .before .before .pre .readable .messages
 
 returns : tie.Need-returns
-returns c = let s = c .before .before .before .before .before .before .before .before .before .before .before .before .before .before .before .before .before .before .before .before .before .before .before .args .t1 in
-    sees s (c .before .before .before .before .before .before .before .before .before .before .before .before .before .before .before .before .before .before .before .before .before .before .before .args .call)
-    (sees-task s (c .before .before .before .before .before .before .before .before .before .before .before .before .before .before .before .before .before .before .before .before .before .before .before .args .call .caller) (c .before .before .before .before .before .before .before .before .before .before .before .before .before .before .before .before .before .before .before .before .before .before .cell-of .ensures) (c .before .before .before .before .before .before .before .before .before .before .before .see-task .ensures))
-    (rw (c .before .before .before .before .before .before .before .before .before .before .before .before .before .before .before .before .before .before .before .before .task-named .ensures) at (sees-task s (c .before .before .before .before .before .before .before .before .before .before .before .before .before .before .before .before .before .before .before .before .task-named .result) (c .before .before .before .before .before .before .before .before .before .before .before .before .before .before .before .before .before .before .before .cell-of2 .ensures) (c .before .before .before .before .before .before .before .before .before .before .see-task2 .ensures)))
-    (rw (c .before .before .before .before .before .before .before .before .before .before .before .before .before .before .before .before .before .queue-named .ensures) at (sees-queue s (c .before .before .before .before .before .before .before .before .before .before .before .before .before .before .before .before .before .queue-named .result) (c .before .before .before .before .before .before .before .before .before .before .before .before .before .before .before .before .cell-of3 .ensures) (c .before .before .before .before .before .before .before .see-queue .ensures)))
-    (rw (c .before .before .before .before .before .before .before .before .before .before .before .before .before .before .mailbox-named .ensures) at (sees-mailbox s (c .before .before .before .before .before .before .before .before .before .before .before .before .before .before .mailbox-named .result) (c .before .before .before .before .before .before .before .before .before .before .before .before .before .cell-of4 .ensures) (c .before .before .before .before .see-mailbox .ensures)))
+returns c =
+    let seen-mailbox = c .before .before .before .before in
+    let seen-queue = seen-mailbox .before .before .before in
+    let seen-named = seen-queue .before .before .before in
+    let seen-calling = seen-named .before in
+    let mailbox = seen-calling .before .before in
+    let queue = mailbox .before .before .before in
+    let named = queue .before .before .before in
+    let calling = named .before .before .before in
+    let start = calling .before in
+    let s = start .args .t1 in
+    sees s (start .args .call)
+    (sees-task s (start .args .call .caller) (calling .cell-of .ensures) (seen-calling .see-task .ensures))
+    (rw (named .before .task-named .ensures) at (sees-task s (named .before .task-named .result) (named .cell-of2 .ensures) (seen-named .see-task2 .ensures)))
+    (rw (queue .before .queue-named .ensures) at (sees-queue s (queue .before .queue-named .result) (queue .cell-of3 .ensures) (seen-queue .see-queue .ensures)))
+    (rw (mailbox .before .mailbox-named .ensures) at (sees-mailbox s (mailbox .before .mailbox-named .result) (mailbox .cell-of4 .ensures) (seen-mailbox .see-mailbox .ensures)))
     (rw (c .before .before .before .message-named .ensures) at (c .see-message .ensures ∙ sees-message s (c .before .before .before .message-named .result)))
 
 pub see-spec : {M : Type 1} → statement M

@@ -25,7 +25,11 @@ highest-if-requires : tie.Need-highest-if-requires
 highest-if-requires c κs = search needs
 
 returns-2 : tie.Need-returns-2
-returns-2 c = mailbox-seen (c .before .before .before .before .before .before .args .number) (c .before .before .before .before .before .before .args .mailbox) (c .before .before .before .before .before .before .args .link .now) (sym (c .before .before .before .before .before .is-valid .ensures) ∙ not-false _ (c .before .before .before .before .if1 .left)) (c .before .before .before .before .before .before .pre) (c .before .before .before .first .ensures) (c .before .before .attribute-of .ensures) (rw (c .before .ranks-messages .ensures) at (c .highest-if .ensures))
+returns-2 c =
+    let one = c .before .before .before .before in
+    let start = one .before .before in
+    mailbox-seen (start .args .number) (start .args .mailbox) (start .args .link .now) (sym (one .before .is-valid .ensures) ∙ not-false _ (one .if1 .left)) (start .pre)
+    (c .before .before .before .first .ensures) (c .before .before .attribute-of .ensures) (rw (c .before .ranks-messages .ensures) at (c .highest-if .ensures))
 
 pub see-mailbox-spec : {M : Type 1} → statement M
 see-mailbox-spec =

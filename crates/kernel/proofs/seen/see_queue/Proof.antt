@@ -29,7 +29,11 @@ length-requires : tie.Need-length-requires
 length-requires c κs = search needs
 
 returns-2 : tie.Need-returns-2
-returns-2 c = queue-seen (c .before .before .before .before .before .before .args .number) (c .before .before .before .before .before .before .args .queue) (c .before .before .before .before .before .before .args .link .now) (sym (c .before .before .before .before .before .is-valid .ensures) ∙ not-false _ (c .before .before .before .before .if1 .left)) (c .before .before .before .before .before .before .pre) (c .before .before .before .first .ensures) (c .before .before .first2 .ensures) (c .before .kept-capacity .ensures) (c .length .ensures)
+returns-2 c =
+    let one = c .before .before .before .before in
+    let start = one .before .before in
+    queue-seen (start .args .number) (start .args .queue) (start .args .link .now) (sym (one .before .is-valid .ensures) ∙ not-false _ (one .if1 .left)) (start .pre)
+    (c .before .before .before .first .ensures) (c .before .before .first2 .ensures) (c .before .kept-capacity .ensures) (c .length .ensures)
 
 pub see-queue-spec : {M : Type 1} → statement M
 see-queue-spec =

@@ -1,10 +1,9 @@
 -- Call 17 is a receive with an end: the tmout fits its 32 bits, so the end is the definition's.
-use mir.Syntax.{w32}
 use mir.Facts.{toZ-ofZ}
+use mir.Syntax.{w32}
+use mir.Val.{SFits}
 use borrow.Author.Needs.{needs}
-use Rattle.lists.specs.Lists.{one-of}
-use Rattle.record.specs.Meaning.{abs}
-use Rattle.mailboxes.proofs.Calls.{caller-waitable, received}
+use Rattle.mailboxes.proofs.Calls.{receives-17}
 use Rattle.mailboxes.proofs.Mailboxes.trcv_mbx.Statement.{statement}
 use Rattle.mailboxes.proofs.Mailboxes.trcv_mbx.Tie as tie
 
@@ -12,16 +11,12 @@ end-of-requires : tie.Need-end-of-requires
 end-of-requires c κs = search needs
 
 receive-until-requires : tie.Need-receive-until-requires
-unfolding one-of
-receive-until-requires c κs = caller-waitable (c .before .before .before .pre) tt tt tt
+receive-until-requires c κs = receives-17 (c .before .before .before .pre) .ready
 
 returns : tie.Need-returns
-unfolding one-of abs
 returns c =
-    let start = c .before .before .before .before in
-    let told = c .before .before .struct-told .given .1 .1 .1 .1 .1 .1 .0 .1 in
-    let tmout-is = toZ-ofZ {w = w32} {z = start .args .call .tmout} (record { sfits = told }) in
-    received (start .pre) tt tt tt (rw tmout-is at (c .before .end-of .ensures)) (c .receive-until .ensures)
+    let fits : SFits w32 (c .before .before .before .before .args .call .tmout) = search needs in
+    receives-17 (c .before .before .before .before .pre) .does (rw (rw (toZ-ofZ fits) at (c .before .end-of .ensures)) at (c .receive-until .ensures))
 
 pub trcv-mbx-spec : {M : Type 1} → statement M
 trcv-mbx-spec = tie.close (tie.spec end-of-requires receive-until-requires returns)

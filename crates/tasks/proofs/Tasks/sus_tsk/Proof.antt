@@ -1,13 +1,14 @@
 -- `sus_tsk` changes the task's suspension: by `set_suspension`.
 use borrow.Author.Needs.{needs}
 use Rattle.lists.specs.Lists.{one-of}
-use Rattle.tasks.proofs.Laws.{object-valid, suspension-set}
+use Rattle.record.proofs.Accepted.{valid-task}
+use Rattle.tasks.proofs.Laws.{suspension-set}
 use Rattle.tasks.proofs.Tasks.sus_tsk.Statement.{statement}
 use Rattle.tasks.proofs.Tasks.sus_tsk.Tie as tie
 
 set-suspension-requires : tie.Need-set-suspension-requires
 unfolding one-of
-set-suspension-requires c κs = (c .before .pre .sound .readable, object-valid (c .before .pre) tt)
+set-suspension-requires c κs = (c .before .pre .sound .readable, valid-task (c .before .pre) tt)
 
 finished-requires : tie.Need-finished-requires
 finished-requires c κs = search needs
