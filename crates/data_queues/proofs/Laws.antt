@@ -3,11 +3,13 @@ use mathlib.Core.Path.{_≡_, refl, sym, ap, _∙_, subst}
 use mathlib.Core.Bool.{not}
 use mathlib.Core.List.{List, [], _∷_, headD}
 use mathlib.Core.Logic.{_≢_}
-use Prim.Native.Nat.{ℕ, _+_, _<_, _≤_}
+use Prim.Native.Nat.{ℕ, _+_, _<_, _≤_, _*_}
 use native.Mathlib.Omega.{arith}
 use lib.Dec.{T, eqb, lt→ltb}
 use lib.ListN.{length}
 use mir.Facts.{eqb-no, ltb-no, ltb-yes, no-ltb}
+use mir.Syntax.{w64}
+use mir.Val.{Fits}
 use Rattle.lists.specs.Lists.{empty}
 use Rattle.rows.specs.Program.{update}
 use Rattle.ring.specs.Ring.{stored, InRange}
@@ -38,6 +40,13 @@ module _ {s : State} {q : ℕ} (a : AtQueue s q) where
 
   pub queue-range : (1 ≤ q) × (q ≤ queue-limit)
   queue-range = from-within 1 queue-limit q (a .valid-queue)
+
+  -- Its cell lies in its array.
+  pub queue-fits : q < 17
+  queue-fits = let r = queue-range in omega arith
+
+  pub queue-offset : Fits w64 (q * 72)
+  queue-offset = let r = queue-range in record { fits = omega arith }
 
   pub cell-defined : T (cell .defined)
   cell-defined = subst (λ (y : QueueRow). T (y .defined)) (row-is s (queue q) (a .valid-queue)) (a .defined)

@@ -2,10 +2,12 @@
 use mathlib.Core.Path.{_≡_, refl, sym, ap, _∙_, fun-ext}
 use mathlib.Core.Bool.{false, not}
 use mathlib.Core.List.{[], _∷_, _++_, map, tail, headD, List·Memᴰ as In}
-use Prim.Native.Nat.{ℕ, _+_, _<_, _≤_}
+use Prim.Native.Nat.{ℕ, _+_, _<_, _≤_, _*_}
 use native.Mathlib.Omega.{arith}
 use lib.Dec.{T}
 use lib.ListN.{length, length-map}
+use mir.Syntax.{w64}
+use mir.Val.{Fits}
 use Rattle.lists.specs.Lists.{empty, insert-at}
 use Rattle.lists.proofs.Changes.{insert-at-end}
 use Rattle.lists.proofs.Stands.{in-head}
@@ -58,6 +60,13 @@ module _ {s : State} {q : ℕ} (a : AtQueue s q) where
 
     pub sender-range : (1 ≤ sender) × (sender ≤ task-limit)
     sender-range = from-within 1 task-limit sender (waiter-valid (a .sound) (senders-of q) in-senders)
+
+    -- Its cell lies in its array.
+    pub sender-fits : sender < 33
+    sender-fits = let r = sender-range in omega arith
+
+    pub sender-offset : Fits w64 (sender * 24)
+    sender-offset = let r = sender-range in record { fits = omega arith }
 
     pub sender-word : held-word (task-at s sender .wait) ≡ held-word (abs s .rows (task (headD (x .senders) 0)) .wait)
     sender-word = ap (λ (y : TaskRow). held-word (y .wait)) (sym (row-is s (task sender) (waiter-valid (a .sound) (senders-of q) in-senders)))

@@ -1,18 +1,17 @@
 -- `receive` goes through its cases in order: each test says which branch the program takes.
-use native.Mathlib.Omega.{arith}
 use Rattle.record.proofs.Laws.{stays}
 use Rattle.waits.proofs.Laws.{has-chain}
 use borrow.Author.Needs.{needs}
-use Rattle.data_queues.proofs.Laws.{queue-range, on-senders, words-stored, nothing-stored, no-sender, some-sender}
+use Rattle.data_queues.proofs.Laws.{queue-fits, queue-offset, on-senders, words-stored, nothing-stored, no-sender, some-sender}
 use Rattle.data_queues.proofs.Receiving.{receives-oldest, receives-and-refills, receives-from-sender, receives-otherwise}
 use Rattle.data_queues.proofs.receive.Statement.{statement}
 use Rattle.data_queues.proofs.receive.Tie as tie
 
 mul-queue : tie.Need-mul-queue
-mul-queue c = let h = queue-range (c .pre .0) in omega arith
+mul-queue c = queue-offset (c .pre .0)
 
 element-copy-out-queue : tie.Need-element-copy-out-queue
-element-copy-out-queue c = let h = queue-range (c .pre .0) in omega arith
+element-copy-out-queue c = queue-fits (c .pre .0)
 
 first-requires : tie.Need-first-requires
 first-requires c κs = has-chain (on-senders (c .before .before .before .before .pre .0))

@@ -5,7 +5,7 @@ use Rattle.data_queues.specs.Bodies.{FullReady}
 use Rattle.data_queues.specs.declared.Full.the-variants.{Replace}
 use Rattle.waits.proofs.Laws.{has-chain}
 use borrow.Author.Needs.{needs}
-use Rattle.data_queues.proofs.Laws.{queue-range, on-receivers, has-room-now, no-room, full-words, no-receiver, some-receiver}
+use Rattle.data_queues.proofs.Laws.{queue-range, queue-fits, queue-offset, on-receivers, has-room-now, no-room, full-words, no-receiver, some-receiver}
 use Rattle.data_queues.proofs.Sending.{sends-to-receiver, sends-to-store, sends-otherwise}
 use Rattle.data_queues.proofs.send.Statement.{statement}
 use Rattle.data_queues.proofs.send.Tie as tie
@@ -23,10 +23,10 @@ returns : tie.Need-returns
 returns c = let a = c .before .before .before .before .before .pre .0 in sends-to-receiver a _ _ (some-receiver a (c .before .before .first .ensures) (c .before .if1 .taken)) (c .deliver .ensures)
 
 mul-queue : tie.Need-mul-queue
-mul-queue c = let h = queue-range (c .before .before .before .before .pre .0) in omega arith
+mul-queue c = queue-offset (c .before .before .before .before .pre .0)
 
 element-copy-out-queue : tie.Need-element-copy-out-queue
-element-copy-out-queue c = let h = queue-range (c .before .before .before .before .pre .0) in omega arith
+element-copy-out-queue c = queue-fits (c .before .before .before .before .pre .0)
 
 length-requires : tie.Need-length-requires
 length-requires c κs = search needs
