@@ -47,33 +47,12 @@ use Rattle.mailboxes.proofs.Bodies.{kept-twice, valid-number, on-waiter
 -- ── Every call on a mailbox ──
 
 module _ {n : ℕ} {s : State} {c : Call} (a : Accepted n s c) (named : T (names-mailbox (numbered n c))) where
-  -- The mailbox in view is the record's.
-  shown : view a .the-mailbox ≡ mailbox-in s (c .object)
-  shown = the-mailbox-is a named
-
   -- It is defined, unless the call is to create it.
   on-object : T (not (creates (numbered n c))) → (T (exists (view a) (numbered n c)) → T (view a .the-mailbox .defined)) → OnMailbox s (c .object)
-  on-object not-created only = record { sound = a .sound; defined = rw shown at (only (exists-already (passed a) not-created)) }
+  on-object not-created only = record { sound = a .sound; defined = rw (the-mailbox-is a named) at (only (exists-already (passed a) not-created)) }
 
   waitable : OnMailbox s (c .object) → T (task-only (numbered n c)) → Waitable s (c .object) (c .caller)
   waitable on h = let w = caller-waits a h in record { on = on; defined = w .0; able = w .1 }
-
--- ── 15, 17 ──
-
--- What a receive asks of its body, and that the body's program is the call's.
-pub record ReceivesAs (s : State) (c : Call) (end : End) (call : Environment → View → Call → Effect) : Type 0 where
-  pub ready : Waitable s (c .object) (c .caller)
-  pub does : {r : Step} → Does (receive-message (c .object) (mailbox-in s (c .object)) (wait-for-message (c .object) (mailbox-in s (c .object)) (c .caller) (abs s .rows (task (c .caller))) end)) s r
-      → Performs call s c r
-
-module _ {s : State} {c : Call} where
-  pub receives-15 : Accepted 15 s c → ReceivesAs s c Never rcv-mbx
-  unfolding one-of exists
-  receives-15 a = record { ready = waitable a tt (on-object a tt tt (λ t. t)) tt; does = λ d. performs a rcv-mbx (rw (shown a tt, caller-is a tt) d) }
-
-  pub receives-17 : Accepted 17 s c → ReceivesAs s c (end-of (s .counter) (c .tmout)) trcv-mbx
-  unfolding one-of exists
-  receives-17 a = record { ready = waitable a tt (on-object a tt tt (λ t. t)) tt; does = λ d. performs a trcv-mbx (rw (shown a tt, caller-is a tt, counter-of s) d) }
 
 -- ── 12 ──
 
@@ -93,7 +72,7 @@ module _ {s : State} {c : Call} (a : Accepted 12 s c) where
 
   not-yet : T (not (mailbox-in s (c .object) .defined))
   unfolding one-of exists
-  not-yet = rw (shown a tt) at (exists-not (passed a) tt)
+  not-yet = rw (the-mailbox-is a tt) at (exists-not (passed a) tt)
 
   pub created : {ranked : Bool} {highest : ℕ} → ranked ≡ messages-by-priority (c .attribute) → highest ≡ cond ranked (highest-of c) 0
       → Performs cre-mbx s c (record { state = with-mailbox (c .object) (record { defined = true; attribute = c .attribute; highest = highest }) s; answer = finished E-OK 0 0 0 })
@@ -134,7 +113,7 @@ module _ {s : State} {c : Call} (a : Accepted 13 s c) where
         let valid-b = valid-number on-deleted in
         let freed = messages-cleared (waits-over .sound .readable) b valid-b d in
         let no-waiter = sym (standing-is u (waiters-of b) valid-b) ∙ waits-over .no-one in
-        performs a del-mbx (rw (shown a tt, ← waits-over .messages b)
+        performs a del-mbx (rw (the-mailbox-is a tt, ← waits-over .messages b)
         (does-rest (waits-over .runs _) (waits-over .counter-is)
         (does (after-free-messages _ _ (abs u .rows) (after-put (after-return (
           meaning (ap (update same-key (mailbox b) no-mailbox) (freed .rows-are) ∙ put-twice (mailbox b) _ _ _)
@@ -159,7 +138,7 @@ module _ {s : State} {c : Call} (a : Accepted 14 s c) where
     valid-message = valid-message a tt;
     is-free = rw (the-message-is a tt) at (message-free (passed a) tt);
     in-range = λ t.
-        let low : message-priority-of c ≤ mailbox-in s (c .object) .highest = rw (shown a tt) at (message-priority (passed a) tt (rw (shown a tt) t) .1) in
+        let low : message-priority-of c ≤ mailbox-in s (c .object) .highest = rw (the-mailbox-is a tt) at (message-priority (passed a) tt (rw (the-mailbox-is a tt) t) .1) in
         let high = rows-of (a .sound) .mailboxes (c .object) .highest-in-range t .1 in
         omega arith;
   }
@@ -171,13 +150,30 @@ module _ {s : State} {c : Call} (a : Accepted 14 s c) where
 
       pub sent-delivered : {r : Step} → Does (deliver-message (c .object) (mailbox-in s (c .object)) (message-of c)) s r → Performs snd-mbx s c r
       unfolding send-message one-of
-      sent-delivered d = performs a snd-mbx (rw (shown a tt) (does-rest (run-yes same-key _ _ _ _ (message-deliverable .someone)) refl d))
+      sent-delivered d = performs a snd-mbx (rw (the-mailbox-is a tt) (does-rest (run-yes same-key _ _ _ _ (message-deliverable .someone)) refl d))
 
     pub sent-queued : {r : Step} → waiter ≡ 0 → Does (queue-message (c .object) (mailbox-in s (c .object)) (message-of c) (message-priority-of c)) s r → Performs snd-mbx s c r
     unfolding send-message one-of empty
     sent-queued none d =
         let nobody = nobody-waits (on-waiters on-sent) (waiters-of (c .object)) (own-chain on-sent) waiter-is none in
-        performs a snd-mbx (rw (shown a tt) (does-rest (run-no same-key _ _ _ _ (rw nobody tt)) refl d))
+        performs a snd-mbx (rw (the-mailbox-is a tt) (does-rest (run-no same-key _ _ _ _ (rw nobody tt)) refl d))
+
+-- ── 15, 17 ──
+
+-- What a receive asks of its body, and that the body's program is the call's.
+pub record ReceivesAs (s : State) (c : Call) (end : End) (call : Environment → View → Call → Effect) : Type 0 where
+  pub ready : Waitable s (c .object) (c .caller)
+  pub does : {r : Step} → Does (receive-message (c .object) (mailbox-in s (c .object)) (wait-for-message (c .object) (mailbox-in s (c .object)) (c .caller) (abs s .rows (task (c .caller))) end)) s r
+      → Performs call s c r
+
+module _ {s : State} {c : Call} where
+  pub receives-15 : Accepted 15 s c → ReceivesAs s c Never rcv-mbx
+  unfolding one-of exists
+  receives-15 a = record { ready = waitable a tt (on-object a tt tt (λ t. t)) tt; does = λ d. performs a rcv-mbx (rw (the-mailbox-is a tt, caller-is a tt) d) }
+
+  pub receives-17 : Accepted 17 s c → ReceivesAs s c (end-of (s .counter) (c .tmout)) trcv-mbx
+  unfolding one-of exists
+  receives-17 a = record { ready = waitable a tt (on-object a tt tt (λ t. t)) tt; does = λ d. performs a trcv-mbx (rw (the-mailbox-is a tt, caller-is a tt, counter-of s) d) }
 
 -- ── 16 ──
 
@@ -185,11 +181,11 @@ module _ {s : State} {c : Call} (a : Accepted 16 s c) where
   -- Step 7 has refused a poll that finds no message.
   pub poll-takeable : Takeable s (c .object)
   unfolding one-of exists polls would-wait
-  poll-takeable = record { on = on-object a tt tt (λ t. t); something = rw (shown a tt) at (passed a .step-7) }
+  poll-takeable = record { on = on-object a tt tt (λ t. t); something = rw (the-mailbox-is a tt) at (passed a .step-7) }
 
   pub polled : {r : Step} → Does (take-message (c .object) (mailbox-in s (c .object))) s r → Performs prcv-mbx s c r
   unfolding receive-message one-of
-  polled d = performs a prcv-mbx (rw (shown a tt) (does-rest (run-yes same-key _ _ _ _ (poll-takeable .something)) refl d))
+  polled d = performs a prcv-mbx (rw (the-mailbox-is a tt) (does-rest (run-yes same-key _ _ _ _ (poll-takeable .something)) refl d))
 
 -- ── 18 ──
 
@@ -201,4 +197,4 @@ module _ {s : State} {c : Call} (a : Accepted 18 s c) where
   pub heads-shown : {waiter message : ℕ} → waiter ≡ headD (chain-list s (32 + c .object)) 0 → message ≡ headD (getD (lists message-limit message-chains (s .messages .link)) (c .object) []) 0
       → Performs ref-mbx s c (record { state = s; answer = finished E-OK waiter message 0 })
   unfolding one-of
-  heads-shown e f = performs a ref-mbx (rw (shown a tt, waiters-are on-shown, queued-are on-shown) (stays (a .sound .readable) (rw (e, f) refl)))
+  heads-shown e f = performs a ref-mbx (rw (the-mailbox-is a tt, waiters-are on-shown, queued-are on-shown) (stays (a .sound .readable) (rw (e, f) refl)))
