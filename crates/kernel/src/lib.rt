@@ -2,8 +2,10 @@
 // error table, and where no row of that refuses it, what the call does.
 ghost use mathlib.Core.Path.{_≡_};
 ghost use Rattle.record.specs.Step.{refusal-of, Stepped};
+
 mod calls;
 mod seen;
+
 use model::Call;
 use model::Code;
 use record::State;

@@ -592,20 +592,26 @@ fn common_start(counter: u32) -> State {
     state
 }
 
+// Makes one of a sentence's calls and prints its answer.
+fn play_call(state: State, sentence: Sentence, i: usize) -> State {
+    let number = sentence.number;
+    let done = step(state, call_of(sentence, i));
+    let answer = done.answer;
+    let after = done.state;
+    print_comma(i);
+    print_answer(number, answer);
+    print_counter(number, after);
+    after
+}
+
 // Makes the calls of a sentence and prints it.
 fn play(start: State, sentence: Sentence) -> State {
     print_calls(sentence);
-    let number = sentence.number;
     let times = sentence.times;
     let mut state = start;
     let mut i: usize = 0;
     while i < times {
-        let done = step(state, call_of(sentence, i));
-        let answer = done.answer;
-        state = done.state;
-        print_comma(i);
-        print_answer(number, answer);
-        print_counter(number, state);
+        state = play_call(state, sentence, i);
         i += 1;
     }
     print(b".");
