@@ -1,10 +1,10 @@
 -- The calls on data queues: what an accepted call has in view is its queue's own row, so its body does what its definition says.
 use mathlib.Core.Path.{_≡_, refl, sym, ap, _∙_, subst}
-use mathlib.Core.Bool.{Bool, true, false, not, _||_}
-use mathlib.Core.List.{List, [], headD}
-use Prim.Native.Nat.{ℕ, _+_, _<_, _≤_}
+use mathlib.Core.Bool.{true, false, not, _||_}
+use mathlib.Core.List.{[], headD}
+use Prim.Native.Nat.{ℕ, _+_, _≤_}
 use native.Mathlib.Omega.{arith}
-use lib.Dec.{T, eqb}
+use lib.Dec.{T}
 use lib.ListN.{length}
 use Rattle.lists.specs.Lists.{empty, one-of}
 use Rattle.rows.specs.Program.{put, update, run}
@@ -12,24 +12,21 @@ use Rattle.ring.specs.Ring as ring
 use Rattle.ring.specs.Ring.{stored}
 use Rattle.ring.specs.declared.Ring.{Ring}
 use Rattle.model.specs.Sizes.{capacity-limit}
-use Rattle.model.specs.Rows.{task, queue, Environment, Effect, same-key, valid, QueueRow, no-queue}
+use Rattle.model.specs.Rows.{queue, Environment, Effect, same-key, valid, QueueRow, no-queue}
 use Rattle.model.specs.Codes.{finished, done}
 use Rattle.model.specs.Calls.{View, names-queue, creates, view-of}
 use Rattle.model.specs.Errors.{task-only, exists}
 use Rattle.model.specs.WaitQueues.{end-waits}
 use Rattle.model.specs.DataQueues.{send, receive, cre-dtq, del-dtq, snd-dtq, psnd-dtq, tsnd-dtq, fsnd-dtq, rcv-dtq, prcv-dtq, trcv-dtq, ref-dtq}
 use Rattle.model.specs.Waits.{end-of}
-use Rattle.model.specs.WellFormed.{standing-in, senders-of, receivers-of}
+use Rattle.model.specs.WellFormed.{senders-of, receivers-of}
 use Rattle.model.specs.declared.Answer.{Answer}
 use Rattle.model.specs.declared.Call.{Call}
 use Rattle.model.specs.declared.Code.the-variants.{Ok as E-OK, Dlt as E-DLT}
-use Rattle.model.specs.declared.End.{End}
 use Rattle.model.specs.declared.End.the-variants.{Never}
 use Rattle.model.proofs.Tests.{only-left, neither-left}
 use Rattle.model.proofs.Step.{numbered}
 use Rattle.model.proofs.Checked.{queue-attribute, queue-capacity, exists-not, exists-already, caller-defined, caller-able, something-to-drop}
-use Rattle.parts.specs.Queues.{queue-row}
-use Rattle.parts.specs.declared.Queue.{Queue}
 use Rattle.record.specs.declared.State.{State}
 use Rattle.record.specs.declared.Step.{Step}
 use Rattle.record.specs.Meaning.{queue-at, abs}
@@ -37,7 +34,7 @@ use Rattle.record.specs.Step.{Becomes, Does, Accepted, Performs}
 use Rattle.record.proofs.Laws.{with-queue, queue-changed, stays, meaning}
 use Rattle.record.proofs.Accepted.{passed, valid-queue, the-queue-is, caller-is}
 use Rattle.record.proofs.Numbered.{numbered-call, performs}
-use Rattle.waits.specs.Waiting.{chain-list, OnChain, ChainOf, Cleared, AllEnded}
+use Rattle.waits.specs.Waiting.{chain-list, Cleared, AllEnded}
 use Rattle.waits.proofs.Laws.{rows-of, chain-of-queue}
 use Rattle.data_queues.proofs.Laws.{words-are, on-senders, on-receivers, senders-chain, receivers-chain}
 use Rattle.data_queues.specs.Bodies.{AtQueue, CanWait, when-full, FullReady, when-empty, EmptyReady}

@@ -1,12 +1,12 @@
 -- What each body leaves of a record is what its program leaves of the rows: by the laws of the record, the ring's promises and the waits'.
 use mathlib.Core.Path.{_≡_, refl, sym, ap, _∙_, subst, fun-ext}
-use mathlib.Core.Bool.{Bool, true, false, not, cond}
+use mathlib.Core.Bool.{Bool, false, not}
 use mathlib.Core.List.{List, [], _∷_, _++_, map, tail, headD, List·Memᴰ as In}
 use mathlib.Core.Logic.{_≢_}
 use Prim.Native.Nat.{ℕ, _+_, _<_, _≤_}
 use native.Mathlib.Omega.{arith}
 use lib.Dec.{T, eqb, lt→ltb}
-use lib.ListN.{length, getD, length-map}
+use lib.ListN.{length, length-map}
 use mir.Facts.{eqb-no, ltb-no, ltb-yes, no-ltb}
 use Rattle.lists.specs.Lists.{empty, insert-at}
 use Rattle.lists.proofs.Changes.{insert-at-end}
@@ -15,10 +15,10 @@ use Rattle.rows.specs.Program as Program
 use Rattle.rows.specs.Program.{update, run}
 use Rattle.rows.proofs.Update.{update-same}
 use Rattle.rows.proofs.Run.{run-get-each, run-yes, run-no}
-use Rattle.ring.specs.Ring.{stored, InRange, Empty, Pushed, Popped, Replaced}
+use Rattle.ring.specs.Ring.{stored, InRange, Pushed, Popped, Replaced}
 use Rattle.ring.specs.declared.Ring.{Ring}
 use Rattle.model.specs.Sizes.{queue-limit, task-limit}
-use Rattle.model.specs.Rows.{Key, task, suspension, queue, mailbox, message, same-key, valid, Row, TaskRow, QueueRow, Effect, senders-by-priority, has-room, with-words, with-senders, with-receivers}
+use Rattle.model.specs.Rows.{Key, task, suspension, queue, mailbox, message, same-key, Row, TaskRow, QueueRow, Effect, senders-by-priority, has-room, with-words, with-senders, with-receivers}
 use Rattle.model.specs.Codes.{finished, waits}
 use Rattle.model.specs.Waits.{held-word, starting, ended}
 use Rattle.model.specs.WaitQueues.{place, release}

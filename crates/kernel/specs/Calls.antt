@@ -1,5 +1,4 @@
 -- A call by its number.
-use mathlib.Core.Path.{_≡_}
 use Prim.Native.Nat.{ℕ, _≤_}
 use Rattle.model.specs.declared.Call.{Call}
 use Rattle.record.specs.declared.State.{State}

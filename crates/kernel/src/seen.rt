@@ -7,7 +7,6 @@ ghost use lib.Dec.{eqb};
 ghost use Rattle.chain.specs.Table as chain;
 ghost use Rattle.errors.specs.Seen.{ShowsTask, ShowsQueue, ShowsMailbox, Shows};
 ghost use Rattle.model.specs.Calls.{view-of};
-ghost use Rattle.model.specs.Rows.{messages-by-priority};
 ghost use Rattle.model.specs.Sizes.{within};
 ghost use Rattle.model.specs.Waits.{able};
 ghost use Rattle.parts.specs.Mailboxes.{kept-attribute};
@@ -131,11 +130,11 @@ fn attribute_of(mailbox: Mailbox) -> u8
     0
 }
 
-// The highest message priority, which is kept with attribute 2 or 3.
-fn highest_of(attribute: u8, highest: u8) -> u8
-    ensures { λ r. ⌜ r ≡ cond (messages-by-priority attribute) highest 0 ⌝ }
+// The highest message priority, where it is kept.
+fn highest_if(ranked: bool, highest: u8) -> u8
+    ensures { λ r. ⌜ r ≡ cond ranked highest 0 ⌝ }
 {
-    if (attribute == 2) | (attribute == 3) {
+    if ranked {
         return highest;
     }
     0
@@ -155,7 +154,8 @@ fn see_mailbox(number: u8, mailbox: Mailbox, link: &[u8; CELLS]) -> MailboxSeen
     }
     let message = chain::first(link, MESSAGES, MESSAGE_CHAINS, number as usize);
     let attribute = attribute_of(mailbox);
-    let highest = highest_of(attribute, mailbox.highest);
+    let ranked = mailboxes::ranks_messages(attribute);
+    let highest = highest_if(ranked, mailbox.highest);
     MailboxSeen {
         defined: mailbox.defined,
         attribute,

@@ -35,7 +35,7 @@ fn ranks_waiters(attribute: u8) -> bool
 }
 
 // Whether messages go by their priority.
-fn ranks_messages(attribute: u8) -> bool
+pub fn ranks_messages(attribute: u8) -> bool
     ensures { λ r. ⌜ r ≡ messages-by-priority attribute ⌝ }
 {
     (attribute == 2) | (attribute == 3)

@@ -1,11 +1,11 @@
 -- What an accepted call names is valid, and what it has in view are the record's own rows: read off the error table.
-use mathlib.Core.Path.{_≡_, refl}
+use mathlib.Core.Path.{_≡_}
 use mathlib.Core.Bool.{Bool, true, false, cond}
 use Prim.Native.Nat.{ℕ}
 use lib.Dec.{T}
 use Rattle.lists.proofs.Each.{each-of-all}
 use Rattle.model.specs.Rows.{task, suspension, queue, mailbox, message, valid, no-task, no-queue, no-mailbox, free}
-use Rattle.model.specs.Calls.{View, names-task, names-queue, names-mailbox, names-message, message-of, view-of}
+use Rattle.model.specs.Calls.{names-task, names-queue, names-mailbox, names-message, message-of, view-of}
 use Rattle.model.specs.Errors.{task-only}
 use Rattle.model.specs.declared.Call.{Call}
 use Rattle.model.proofs.Accepted.{Passes, passes, accepted}

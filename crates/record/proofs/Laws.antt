@@ -1,9 +1,9 @@
 -- How the meaning of a record follows its changes: a changed task, data queue, mailbox or chain is one changed row. Row by row, the others being read from cells that are as they were.
-use mathlib.Core.Path.{_≡_, refl, sym, ap, _∙_, fun-ext}
+use mathlib.Core.Path.{_≡_, refl, ap, _∙_, fun-ext}
 use mathlib.Core.Bool.{Bool, true, false, cond}
-use mathlib.Core.List.{List, []}
+use mathlib.Core.List.{List}
 use mathlib.Core.Logic.{_≢_}
-use Prim.Native.Nat.{ℕ, _+_, _<_, _≤_}
+use Prim.Native.Nat.{ℕ, _<_}
 use native.Mathlib.Omega.{arith}
 use native.Mathlib.Decide.{ℕ-discrete}
 use lib.Dec.{T}
@@ -11,15 +11,15 @@ use lib.ListN.{length, getD, set, length-set}
 use lib.Seq.{getD-set-same, getD-set-other}
 use Rattle.rows.specs.Program as Program
 use Rattle.rows.specs.Program.{return, update, run}
-use Rattle.rows.proofs.Update.{update-same, update-cases}
+use Rattle.rows.proofs.Update.{update-cases}
 use Rattle.chain.specs.Table as chain
 use Rattle.chain.specs.Changes.{HasChain, Changed}
 use Rattle.chain.specs.declared.Chains.{Chains}
 use Rattle.chain.proofs.Standing.{new-list, other-list}
 use Rattle.ring.specs.Ring.{InRange}
-use Rattle.model.specs.Sizes.{task-limit, queue-limit, mailbox-limit}
-use Rattle.model.specs.Rows.{Key, task, suspension, queue, mailbox, message, same-key, valid, Row, TaskRow, QueueRow, MailboxRow, Effect, nothing, with-senders, with-receivers, with-waiters}
-use Rattle.model.specs.WellFormed.{WaitQueue, senders-of, receivers-of, waiters-of, object-of, standing-in, set-standing}
+use Rattle.model.specs.Sizes.{task-limit, queue-limit}
+use Rattle.model.specs.Rows.{Key, task, suspension, queue, mailbox, message, same-key, valid, Row, Effect, nothing}
+use Rattle.model.specs.WellFormed.{WaitQueue, senders-of, receivers-of, waiters-of, object-of, set-standing}
 use Rattle.model.specs.declared.Answer.{Answer}
 use Rattle.model.proofs.Tests.{from-within}
 use Rattle.parts.specs.Chains.{task-chains, chain-number, tasks-in}
@@ -29,8 +29,8 @@ use Rattle.parts.specs.declared.Task.{Task}
 use Rattle.parts.specs.declared.Queue.{Queue}
 use Rattle.parts.specs.declared.Mailbox.{Mailbox}
 use Rattle.record.specs.declared.State.{State}
-use Rattle.record.specs.Meaning.{no-task-cell, no-queue-cell, no-mailbox-cell, task-at, queue-at, cells-of, abs}
-use Rattle.record.specs.Sound.{Sizes, Readable}
+use Rattle.record.specs.Meaning.{no-task-cell, no-queue-cell, task-at, queue-at, cells-of, abs}
+use Rattle.record.specs.Sound.{Readable}
 use Rattle.record.specs.declared.Step.{Step}
 use Rattle.record.specs.Step.{Becomes, Does}
 use Rattle.record.proofs.Rows.{row-is}

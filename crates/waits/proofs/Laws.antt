@@ -8,7 +8,7 @@ use Prim.Native.Nat.{ℕ, _<_, _≤_}
 use native.Mathlib.Omega.{arith}
 use lib.Dec.{T}
 use lib.ListN.{length, getD, length-map}
-use Rattle.lists.specs.Lists.{empty, insert-at, without, passed}
+use Rattle.lists.specs.Lists.{empty, insert-at, without}
 use Rattle.lists.proofs.Stands.{in-head, without-head}
 use Rattle.rows.specs.Program as Program
 use Rattle.rows.specs.Program.{update, run}
@@ -32,7 +32,7 @@ use Rattle.model.proofs.Standing.{same-queue}
 use Rattle.model.proofs.WaitMoves.{defined-task, leave}
 use Rattle.model.proofs.After.{after-end-wait, leads, leads-here}
 use Rattle.model.proofs.EndWaits.{standing-left, messages-left}
-use Rattle.model.proofs.KeptTasks.{Somewhere, waits-somewhere}
+use Rattle.model.proofs.KeptTasks.{waits-somewhere}
 use Rattle.parts.specs.Chains.{task-chains, chain-number, wait-chain, tasks-in}
 use Rattle.parts.specs.Tasks.{task-row}
 use Rattle.parts.specs.declared.Task.{Task}
@@ -40,10 +40,10 @@ use Rattle.record.specs.declared.State.{State}
 use Rattle.record.specs.Meaning.{task-at, abs}
 use Rattle.record.specs.Sound.{Readable, Sound}
 use Rattle.record.specs.Step.{Becomes}
-use Rattle.waits.specs.Waiting.{chain-list, ChainOf, OnChain, Releasable, Released, released, place-in, joined, Joinable, Joined, ended-wait, Endable, Ended, Clearable, Cleared, AllEnded}
+use Rattle.waits.specs.Waiting.{chain-list, ChainOf, OnChain, Releasable, Released, released, place-in, joined, Joinable, Joined, ended-wait, Endable, Ended, Clearable, Cleared}
 use Rattle.record.proofs.Rows.{passes-or-not, row-is}
 use Rattle.record.proofs.Chains.{chain-range, ChainOwner, chain-owner, named-chain}
-use Rattle.record.proofs.Standing.{standing-is, in-chain, in-queue, stands-from}
+use Rattle.record.proofs.Standing.{standing-is, in-chain, stands-from}
 use Rattle.record.proofs.Keys.{waits-defined, priorities-are}
 use Rattle.record.proofs.Laws.{with-task, with-waiting, task-changed, waiting-changed, and-then, meaning}
 

@@ -121,9 +121,9 @@ pub fn end_wait(mut state: State, t: u8, code: Code) -> State
     let task = state.tasks[i];
     let wait = task.wait;
     let chain = chain_named(wait);
-    let mut waiting = state.waiting;
-    chain::remove(&mut waiting.link, TASKS, TASK_CHAINS, chain, t);
-    state.waiting = waiting;
+    let mut left = state.waiting;
+    chain::remove(&mut left.link, TASKS, TASK_CHAINS, chain, t);
+    state.waiting = left;
     state.tasks[i] = Task {
         wait: Wait::NoWait,
         word: 0,

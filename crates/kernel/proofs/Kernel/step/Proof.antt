@@ -1,3 +1,8 @@
+-- `Kernel::step` keeps its promise for any record and any call: by the number, the test of the record, the tick and the error table, in this order.
+use mathlib.Core.Path.{refl}
+use native.Mathlib.Omega.{arith}
+use Rattle.lists.proofs.Tests.{stopped, went-on}
+use Rattle.kernel.proofs.Outcomes.{is-refused, is-accepted, stepped-unknown, stepped-unsound, stepped-sound, follows-tick, follows-refused, follows-accepted}
 use borrow.Author.Needs.{needs}
 use Rattle.kernel.proofs.Kernel.step.Statement.{statement}
 use Rattle.kernel.proofs.Kernel.step.Tie as tie
@@ -6,7 +11,7 @@ refuse-requires : tie.Need-refuse-requires
 refuse-requires c κs = search needs
 
 returns : tie.Need-returns
-returns c = ?
+returns c = stepped-unknown (c .before .if1 .taken) (c .refuse .ensures)
 
 sound-requires : tie.Need-sound-requires
 sound-requires c κs = search needs
@@ -15,16 +20,16 @@ refuse-requires-2 : tie.Need-refuse-requires-2
 refuse-requires-2 c κs = search needs
 
 returns-2 : tie.Need-returns-2
-returns-2 c = ?
+returns-2 c = stepped-unsound (c .before .before .before .if1 .left) (stopped (c .before .before .sound .ensures) (c .before .if2 .taken)) (c .refuse2 .ensures)
 
 tick-requires : tie.Need-tick-requires
-tick-requires c κs = ?
+tick-requires c κs = went-on (c .before .before .sound .ensures) (c .before .if2 .left)
 
 returns-3 : tie.Need-returns-3
-returns-3 c = ?
+returns-3 c = let S = went-on (c .before .before .before .sound .ensures) (c .before .before .if2 .left) in stepped-sound (c .before .before .before .before .if1 .left) S (follows-tick S (c .before .if3 .taken) (c .tick .ensures))
 
 see-requires : tie.Need-see-requires
-see-requires c κs = ?
+see-requires c κs = went-on (c .before .before .sound .ensures) (c .before .if2 .left)
 
 refusal-requires : tie.Need-refusal-requires
 refusal-requires c κs = search needs
@@ -36,13 +41,19 @@ refuse-requires-3 : tie.Need-refuse-requires-3
 refuse-requires-3 c κs = search needs
 
 returns-4 : tie.Need-returns-4
-returns-4 c = ?
+returns-4 c = let S = went-on (c .before .before .before .before .before .before .before .sound .ensures) (c .before .before .before .before .before .before .if2 .left) in
+    let code = c .before .before .before .refusal .ensures _ (c .before .before .before .before .see .ensures) in
+    stepped-sound (c .before .before .before .before .before .before .before .before .if1 .left) S (follows-refused S (c .before .before .before .before .before .if3 .left) (is-refused (c .before .before .before .before .before .before .before .before .before .before .args .self .state) (c .before .before .before .before .before .before .before .before .before .before .args .call) code (c .before .before .accepts .ensures) (c .before .if4 .taken)) code (c .refuse3 .ensures))
 
 perform-requires : tie.Need-perform-requires
-perform-requires c κs = ?
+perform-requires c κs = let some = c .before .before .before .before .if3 .left in
+    let accepted = is-accepted (c .before .before .before .before .before .before .before .before .before .args .self .state) (c .before .before .before .before .before .before .before .before .before .args .call) (c .before .before .refusal .ensures _ (c .before .before .before .see .ensures)) (c .before .accepts .ensures) (c .if4 .left) in
+    record { accepted = record { sound = went-on (c .before .before .before .before .before .before .sound .ensures) (c .before .before .before .before .before .if2 .left); number-is = refl; accepted = accepted }; not-below = omega arith; not-above = c .before .before .before .before .before .before .before .if1 .left }
 
 returns-5 : tie.Need-returns-5
-returns-5 c = ?
+returns-5 c = let S = went-on (c .before .before .before .before .before .before .before .sound .ensures) (c .before .before .before .before .before .before .if2 .left) in
+    let accepted = is-accepted (c .before .before .before .before .before .before .before .before .before .before .args .self .state) (c .before .before .before .before .before .before .before .before .before .before .args .call) (c .before .before .before .refusal .ensures _ (c .before .before .before .before .see .ensures)) (c .before .before .accepts .ensures) (c .before .if4 .left) in
+    stepped-sound (c .before .before .before .before .before .before .before .before .if1 .left) S (follows-accepted S (c .before .before .before .before .before .if3 .left) accepted (c .perform .ensures))
 
 pub step-spec : {M : Type 1} → statement M
 step-spec =

@@ -1,3 +1,5 @@
+-- `cell_of` gives the number where it is valid, and 0 elsewhere: by the test of its range.
+use mathlib.Core.Path.{refl, sym, _∙_}
 use borrow.Author.Needs.{needs}
 use Rattle.kernel.proofs.seen.cell_of.Statement.{statement}
 use Rattle.kernel.proofs.seen.cell_of.Tie as tie
@@ -6,10 +8,10 @@ is-valid-requires : tie.Need-is-valid-requires
 is-valid-requires c κs = search needs
 
 returns : tie.Need-returns
-returns c = ?
+returns c = rw (sym (c .before .is-valid .ensures) ∙ c .if1 .taken) refl
 
 returns-2 : tie.Need-returns-2
-returns-2 c = ?
+returns-2 c = rw (sym (c .before .is-valid .ensures) ∙ c .if1 .left) refl
 
 pub cell-of-spec : {M : Type 1} → statement M
 cell-of-spec = tie.close (tie.spec is-valid-requires returns returns-2)

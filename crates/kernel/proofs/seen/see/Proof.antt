@@ -1,3 +1,7 @@
+-- `see` shows all that a call has in view: kind by kind.
+use mathlib.Core.Path.{_∙_}
+use native.Mathlib.Omega.{arith}
+use Rattle.kernel.proofs.Views.{cell-fits, sees-task, sees-queue, sees-mailbox, sees-message, sees}
 use borrow.Author.Needs.{needs}
 use Rattle.kernel.proofs.seen.see.Statement.{statement}
 use Rattle.kernel.proofs.seen.see.Tie as tie
@@ -9,10 +13,10 @@ cell-of-requires : tie.Need-cell-of-requires
 cell-of-requires c κs = search needs
 
 mul-calling : tie.Need-mul-calling
-mul-calling c = ?
+mul-calling c = let h = cell-fits (c .before .args .call .caller) 32 (c .cell-of .ensures) in omega arith
 
 element-copy-out-calling : tie.Need-element-copy-out-calling
-element-copy-out-calling c = ?
+element-copy-out-calling c = let h = cell-fits (c .before .args .call .caller) 32 (c .cell-of .ensures) in omega arith
 
 task-named-requires : tie.Need-task-named-requires
 task-named-requires c κs = search needs
@@ -24,10 +28,10 @@ cell-of-requires-2 : tie.Need-cell-of-requires-2
 cell-of-requires-2 c κs = search needs
 
 mul-named : tie.Need-mul-named
-mul-named c = ?
+mul-named c = let h = cell-fits (c .before .task-named .result) 32 (c .cell-of2 .ensures) in omega arith
 
 element-copy-out-named : tie.Need-element-copy-out-named
-element-copy-out-named c = ?
+element-copy-out-named c = let h = cell-fits (c .before .task-named .result) 32 (c .cell-of2 .ensures) in omega arith
 
 queue-named-requires : tie.Need-queue-named-requires
 queue-named-requires c κs = search needs
@@ -36,10 +40,10 @@ cell-of-requires-3 : tie.Need-cell-of-requires-3
 cell-of-requires-3 c κs = search needs
 
 mul-queue : tie.Need-mul-queue
-mul-queue c = ?
+mul-queue c = let h = cell-fits (c .before .queue-named .result) 16 (c .cell-of3 .ensures) in omega arith
 
 element-copy-out-queue : tie.Need-element-copy-out-queue
-element-copy-out-queue c = ?
+element-copy-out-queue c = let h = cell-fits (c .before .queue-named .result) 16 (c .cell-of3 .ensures) in omega arith
 
 mailbox-named-requires : tie.Need-mailbox-named-requires
 mailbox-named-requires c κs = search needs
@@ -48,10 +52,10 @@ cell-of-requires-4 : tie.Need-cell-of-requires-4
 cell-of-requires-4 c κs = search needs
 
 mul-mailbox : tie.Need-mul-mailbox
-mul-mailbox c = ?
+mul-mailbox c = let h = cell-fits (c .before .mailbox-named .result) 16 (c .cell-of4 .ensures) in omega arith
 
 element-copy-out-mailbox : tie.Need-element-copy-out-mailbox
-element-copy-out-mailbox c = ?
+element-copy-out-mailbox c = let h = cell-fits (c .before .mailbox-named .result) 16 (c .cell-of4 .ensures) in omega arith
 
 see-task-requires : tie.Need-see-task-requires
 see-task-requires c κs = search needs
@@ -69,10 +73,16 @@ message-named-requires : tie.Need-message-named-requires
 message-named-requires c κs = search needs
 
 see-message-requires : tie.Need-see-message-requires
-see-message-requires c κs = ?
+see-message-requires c κs = c .before .before .before .before .before .before .before .before .before .before .before .before .before .before .before .before .before .before .before .before .before .before .pre .readable .messages
 
 returns : tie.Need-returns
-returns c = ?
+returns c = let s = c .before .before .before .before .before .before .before .before .before .before .before .before .before .before .before .before .before .before .before .before .before .before .before .args .t1 in
+    sees s (c .before .before .before .before .before .before .before .before .before .before .before .before .before .before .before .before .before .before .before .before .before .before .before .args .call)
+    (sees-task s (c .before .before .before .before .before .before .before .before .before .before .before .before .before .before .before .before .before .before .before .before .before .before .before .args .call .caller) (c .before .before .before .before .before .before .before .before .before .before .before .before .before .before .before .before .before .before .before .before .before .before .cell-of .ensures) (c .before .before .before .before .before .before .before .before .before .before .before .see-task .ensures))
+    (rw (c .before .before .before .before .before .before .before .before .before .before .before .before .before .before .before .before .before .before .before .before .task-named .ensures) at (sees-task s (c .before .before .before .before .before .before .before .before .before .before .before .before .before .before .before .before .before .before .before .before .task-named .result) (c .before .before .before .before .before .before .before .before .before .before .before .before .before .before .before .before .before .before .before .cell-of2 .ensures) (c .before .before .before .before .before .before .before .before .before .before .see-task2 .ensures)))
+    (rw (c .before .before .before .before .before .before .before .before .before .before .before .before .before .before .before .before .before .queue-named .ensures) at (sees-queue s (c .before .before .before .before .before .before .before .before .before .before .before .before .before .before .before .before .before .queue-named .result) (c .before .before .before .before .before .before .before .before .before .before .before .before .before .before .before .before .cell-of3 .ensures) (c .before .before .before .before .before .before .before .see-queue .ensures)))
+    (rw (c .before .before .before .before .before .before .before .before .before .before .before .before .before .before .mailbox-named .ensures) at (sees-mailbox s (c .before .before .before .before .before .before .before .before .before .before .before .before .before .before .mailbox-named .result) (c .before .before .before .before .before .before .before .before .before .before .before .before .before .cell-of4 .ensures) (c .before .before .before .before .see-mailbox .ensures)))
+    (rw (c .before .before .before .message-named .ensures) at (c .see-message .ensures ∙ sees-message s (c .before .before .before .message-named .result)))
 
 pub see-spec : {M : Type 1} → statement M
 see-spec =

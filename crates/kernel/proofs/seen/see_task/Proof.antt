@@ -1,3 +1,7 @@
+-- `see_task` shows what a task's cell says where the number is valid, and nothing elsewhere.
+use mathlib.Core.Path.{sym, _∙_}
+use borrow.Author.Tests.{not-true, not-false}
+use Rattle.kernel.proofs.Views.{no-task-seen, task-seen}
 use borrow.Author.Needs.{needs}
 use Rattle.kernel.proofs.seen.see_task.Statement.{statement}
 use Rattle.kernel.proofs.seen.see_task.Tie as tie
@@ -9,13 +13,13 @@ is-valid-requires : tie.Need-is-valid-requires
 is-valid-requires c κs = search needs
 
 returns : tie.Need-returns
-returns c = ?
+returns c = no-task-seen (c .before .before .args .number) (c .before .before .args .task) (sym (c .before .is-valid .ensures) ∙ not-true _ (c .if1 .taken))
 
 is-able-requires : tie.Need-is-able-requires
 is-able-requires c κs = search needs
 
 returns-2 : tie.Need-returns-2
-returns-2 c = ?
+returns-2 c = task-seen (c .before .before .before .args .number) (c .before .before .before .args .task) (sym (c .before .before .is-valid .ensures) ∙ not-false _ (c .before .if1 .left)) (c .is-able .ensures)
 
 pub see-task-spec : {M : Type 1} → statement M
 see-task-spec =
