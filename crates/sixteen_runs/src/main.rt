@@ -76,45 +76,45 @@ fn ticks(tmout: Tmout) -> i32 {
     }
 }
 
-// The calls of one sentence of document 01, at most four: "T1 snd q1 10, 11". They differ in these values and attributes alone.
+// The calls of one sentence of document 01, as "T1 snd q1 10, 11". They differ in the word alone, which counts up from the first.
 struct Sentence {
     caller: u8,
     number: u8,
     object: u8,
     // How many calls; none where a run has no further sentence.
-    times: usize,
-    values: [u32; 4],
-    attributes: [u32; 4],
+    times: u32,
+    value: u32,
+    attribute: u32,
     tmout: Tmout,
 }
 
-// Calls with these words.
-fn words(caller: u8, number: u8, object: u8, times: usize, values: [u32; 4]) -> Sentence {
+// Calls with a word each.
+fn words(caller: u8, number: u8, object: u8, first: u32, times: u32) -> Sentence {
     Sentence {
         caller,
         number,
         object,
         times,
-        values,
-        attributes: [0; 4],
+        value: first,
+        attribute: 0,
         tmout: Tmout::Zero,
     }
 }
 
 // A call with no word, some times.
-fn plain(caller: u8, number: u8, object: u8, times: usize) -> Sentence {
-    words(caller, number, object, times, [0; 4])
+fn plain(caller: u8, number: u8, object: u8, times: u32) -> Sentence {
+    words(caller, number, object, 0, times)
 }
 
 // snd_mbx to mailbox 1.
-fn post(caller: u8, times: usize, messages: [u32; 4], priorities: [u32; 4]) -> Sentence {
+fn post(caller: u8, message: u32, priority: u32) -> Sentence {
     Sentence {
         caller,
         number: SND_MBX,
         object: 1,
-        times,
-        values: messages,
-        attributes: priorities,
+        times: 1,
+        value: message,
+        attribute: priority,
         tmout: Tmout::Zero,
     }
 }
@@ -125,8 +125,8 @@ fn trcv(caller: u8, queue: u8, tmout: Tmout) -> Sentence {
         number: TRCV,
         object: queue,
         times: 1,
-        values: [0; 4],
-        attributes: [0; 4],
+        value: 0,
+        attribute: 0,
         tmout,
     }
 }
@@ -171,7 +171,7 @@ fn setting(n: u8) -> Call {
 
 fn run_1(n: u8) -> Sentence {
     match n {
-        0 => words(T1, SND, 1, 2, [10, 11, 0, 0]),
+        0 => words(T1, SND, 1, 10, 2),
         1 => plain(T2, PRCV, 1, 3),
         _ => no_more(),
     }
@@ -179,7 +179,7 @@ fn run_1(n: u8) -> Sentence {
 
 fn run_2(n: u8) -> Sentence {
     match n {
-        0 => words(T1, SND, 1, 3, [10, 11, 12, 0]),
+        0 => words(T1, SND, 1, 10, 3),
         1 => plain(T2, PRCV, 1, 1),
         2 => fetch(1),
         3 => plain(H, REF, 1, 1),
@@ -190,8 +190,8 @@ fn run_2(n: u8) -> Sentence {
 
 fn run_3(n: u8) -> Sentence {
     match n {
-        0 => words(T1, SND, 1, 2, [10, 11, 0, 0]),
-        1 => words(T1, FSND, 1, 1, [12, 0, 0, 0]),
+        0 => words(T1, SND, 1, 10, 2),
+        1 => words(T1, FSND, 1, 12, 1),
         2 => plain(T2, PRCV, 1, 2),
         _ => no_more(),
     }
@@ -199,8 +199,8 @@ fn run_3(n: u8) -> Sentence {
 
 fn run_4(n: u8) -> Sentence {
     match n {
-        0 => words(T1, SND, 1, 3, [10, 11, 12, 0]),
-        1 => words(T2, FSND, 1, 1, [13, 0, 0, 0]),
+        0 => words(T1, SND, 1, 10, 3),
+        1 => words(T2, FSND, 1, 13, 1),
         2 => plain(H, REF, 1, 1),
         3 => plain(T2, PRCV, 1, 3),
         _ => no_more(),
@@ -210,8 +210,8 @@ fn run_4(n: u8) -> Sentence {
 // The paper names no word here.
 fn run_5(n: u8) -> Sentence {
     match n {
-        0 => words(T1, PSND, 2, 1, [1, 0, 0, 0]),
-        1 => words(H, FSND, 2, 1, [1, 0, 0, 0]),
+        0 => words(T1, PSND, 2, 1, 1),
+        1 => words(H, FSND, 2, 1, 1),
         _ => no_more(),
     }
 }
@@ -219,7 +219,7 @@ fn run_5(n: u8) -> Sentence {
 fn run_6(n: u8) -> Sentence {
     match n {
         0 => plain(T3, RCV, 2, 1),
-        1 => words(T1, FSND, 2, 1, [7, 0, 0, 0]),
+        1 => words(T1, FSND, 2, 7, 1),
         2 => fetch(3),
         _ => no_more(),
     }
@@ -227,9 +227,9 @@ fn run_6(n: u8) -> Sentence {
 
 fn run_7(n: u8) -> Sentence {
     match n {
-        0 => words(T1, SND, 2, 1, [1, 0, 0, 0]),
-        1 => words(T3, SND, 2, 1, [3, 0, 0, 0]),
-        2 => words(T2, SND, 2, 1, [2, 0, 0, 0]),
+        0 => words(T1, SND, 2, 1, 1),
+        1 => words(T3, SND, 2, 3, 1),
+        2 => words(T2, SND, 2, 2, 1),
         3 => plain(H, REF, 2, 1),
         4 => plain(T4, PRCV, 2, 3),
         _ => no_more(),
@@ -240,7 +240,7 @@ fn run_8(n: u8) -> Sentence {
     match n {
         0 => plain(T1, RCV, 2, 1),
         1 => plain(T2, RCV, 2, 1),
-        2 => words(T3, PSND, 2, 1, [9, 0, 0, 0]),
+        2 => words(T3, PSND, 2, 9, 1),
         3 => fetch(1),
         4 => fetch(2),
         _ => no_more(),
@@ -249,7 +249,7 @@ fn run_8(n: u8) -> Sentence {
 
 fn run_9(n: u8) -> Sentence {
     match n {
-        0 => words(T1, SND, 1, 3, [10, 11, 12, 0]),
+        0 => words(T1, SND, 1, 10, 3),
         1 => plain(H, REL_WAI, 1, 1),
         2 => fetch(1),
         3 => plain(T2, PRCV, 1, 3),
@@ -270,24 +270,29 @@ fn run_10(n: u8) -> Sentence {
 
 fn run_12(n: u8) -> Sentence {
     match n {
-        0 => post(T1, 3, [5, 6, 7, 0], [3, 1, 3, 0]),
-        1 => plain(T2, PRCV_MBX, 1, 3),
+        0 => post(T1, 5, 3),
+        1 => post(T1, 6, 1),
+        2 => post(T1, 7, 3),
+        3 => plain(T2, PRCV_MBX, 1, 3),
         _ => no_more(),
     }
 }
 
 fn run_13(n: u8) -> Sentence {
     match n {
-        0 => post(H, 4, [5, 5, 5, 5], [0, 5, 4, 4]),
-        1 => plain(H, PRCV_MBX, 1, 1),
-        2 => post(H, 1, [5, 0, 0, 0], [4, 0, 0, 0]),
+        0 => post(H, 5, 0),
+        1 => post(H, 5, 5),
+        2 => post(H, 5, 4),
+        3 => post(H, 5, 4),
+        4 => plain(H, PRCV_MBX, 1, 1),
+        5 => post(H, 5, 4),
         _ => no_more(),
     }
 }
 
 fn run_14(n: u8) -> Sentence {
     match n {
-        0 => words(T1, SND, 2, 1, [1, 0, 0, 0]),
+        0 => words(T1, SND, 2, 1, 1),
         1 => plain(T2, DEL_DTQ, 2, 1),
         2 => fetch(1),
         3 => plain(H, REF, 2, 1),
@@ -300,9 +305,9 @@ fn run_15(n: u8) -> Sentence {
     match n {
         0 => plain(T3, RCV, 1, 1),
         1 => plain(H, SUS_TSK, 3, 1),
-        2 => words(T1, SND, 1, 1, [8, 0, 0, 0]),
+        2 => words(T1, SND, 1, 8, 1),
         3 => plain(H, LOOK, 3, 1),
-        4 => words(T3, SND, 1, 1, [1, 0, 0, 0]),
+        4 => words(T3, SND, 1, 1, 1),
         5 => plain(H, RSM_TSK, 3, 1),
         6 => fetch(3),
         _ => no_more(),
@@ -405,14 +410,14 @@ fn print_code(code: Code) {
     }
 }
 
-// The object that a call names: "q1" for a data queue, as the runs write it; a task by its number.
+// The object that a call names: "q1" for a data queue, a task by its number. The runs have one mailbox and don't name it.
 fn print_object(number: u8, object: u8) {
-    print(b" ");
-    if 2 <= number && number <= 11 {
-        print(b"q");
+    if number == SND_MBX || number == PRCV_MBX {
+        return;
     }
-    if 12 <= number && number <= 18 {
-        print(b"mailbox ");
+    print(b" ");
+    if number <= REF {
+        print(b"q");
     }
     print_number(object as u32);
 }
@@ -427,59 +432,41 @@ fn print_caller(caller: u8) {
     print(b" ");
 }
 
-// The value of one of a sentence's calls.
-fn value_at(values: [u32; 4], i: usize) -> u32 {
-    if i < 4 {
-        return values[i];
-    }
-    0
-}
-
-// The first of these values, as many as there are calls: "10, 11".
-fn print_values(values: [u32; 4], times: usize) {
-    let mut i: usize = 0;
-    while i < times {
-        print_comma(i);
-        print_number(value_at(values, i));
-        i += 1;
-    }
+// The word of one of a sentence's calls.
+fn word_of(sentence: Sentence, i: u32) -> u32 {
+    std::num::wrapping_add_u32(sentence.value, i)
 }
 
 // Parts one of a list from what is ahead of it.
-fn print_comma(i: usize) {
+fn print_comma(i: u32) {
     if 0 < i {
         print(b", ");
     }
 }
 
-// "messages 5, 6, 7 with priorities 3, 1, 3".
-fn print_messages(messages: [u32; 4], priorities: [u32; 4], times: usize) {
-    if times == 1 {
-        print(b" message ");
-    } else {
-        print(b" messages ");
+// A word for each call: "10, 11".
+fn print_all_words(sentence: Sentence) {
+    let times = sentence.times;
+    let mut i: u32 = 0;
+    while i < times {
+        print_comma(i);
+        print_number(word_of(sentence, i));
+        i += 1;
     }
-    print_values(messages, times);
-    if times == 1 {
-        print(b" with priority ");
-    } else {
-        print(b" with priorities ");
-    }
-    print_values(priorities, times);
 }
 
 // What a call hands over besides its object.
-fn print_values_of(sentence: Sentence) {
+fn print_values(sentence: Sentence) {
     let number = sentence.number;
-    let values = sentence.values;
-    let times = sentence.times;
     if SND <= number && number <= FSND {
         print(b" ");
-        print_values(values, times);
+        print_all_words(sentence);
     }
     if number == SND_MBX {
-        let priorities = sentence.attributes;
-        print_messages(values, priorities, times);
+        print(b" message ");
+        print_number(sentence.value);
+        print(b" priority ");
+        print_number(sentence.attribute);
     }
     if number == TRCV {
         let tmout = sentence.tmout;
@@ -497,7 +484,7 @@ fn print_calls(sentence: Sentence) {
     print_caller(sentence.caller);
     print_name(sentence.number);
     print_object(sentence.number, sentence.object);
-    print_values_of(sentence);
+    print_values(sentence);
     print(b": ");
 }
 
@@ -559,9 +546,7 @@ fn print_counter(number: u8, state: State) {
 // ── Playing ──
 
 // One of a sentence's calls. Nothing is locked or disabled.
-fn call_of(sentence: Sentence, i: usize) -> Call {
-    let values = sentence.values;
-    let attributes = sentence.attributes;
+fn call_of(sentence: Sentence, i: u32) -> Call {
     let tmout = sentence.tmout;
     Call {
         number: sentence.number,
@@ -569,9 +554,9 @@ fn call_of(sentence: Sentence, i: usize) -> Call {
         locked: false,
         disabled: false,
         object: sentence.object,
-        value: value_at(values, i),
+        value: word_of(sentence, i),
         tmout: ticks(tmout),
-        attribute: value_at(attributes, i),
+        attribute: sentence.attribute,
     }
 }
 
@@ -593,7 +578,7 @@ fn common_start(counter: u32) -> State {
 }
 
 // Makes one of a sentence's calls and prints its answer.
-fn play_call(state: State, sentence: Sentence, i: usize) -> State {
+fn play_call(state: State, sentence: Sentence, i: u32) -> State {
     let number = sentence.number;
     let done = step(state, call_of(sentence, i));
     let answer = done.answer;
@@ -609,7 +594,7 @@ fn play(start: State, sentence: Sentence) -> State {
     print_calls(sentence);
     let times = sentence.times;
     let mut state = start;
-    let mut i: usize = 0;
+    let mut i: u32 = 0;
     while i < times {
         state = play_call(state, sentence, i);
         i += 1;
