@@ -3,10 +3,12 @@ use mathlib.Core.Path.{_≡_, refl, sym, ap, _∙_, subst, fun-ext}
 use mathlib.Core.Bool.{Bool, false, not}
 use mathlib.Core.List.{List, [], _∷_, _++_, map, tail, headD, List·Memᴰ as In}
 use mathlib.Core.Logic.{_≢_}
-use Prim.Native.Nat.{ℕ, _+_, _<_, _≤_}
+use Prim.Native.Nat.{ℕ, _+_, _*_, _<_, _≤_}
 use native.Mathlib.Omega.{arith}
 use lib.Dec.{T, eqb, lt→ltb}
 use lib.ListN.{length, length-map}
+use mir.Syntax.{w64}
+use mir.Val.{Fits}
 use mir.Facts.{eqb-no, ltb-no, ltb-yes, no-ltb}
 use Rattle.lists.specs.Lists.{empty, insert-at}
 use Rattle.lists.proofs.Changes.{insert-at-end}
@@ -60,6 +62,13 @@ module _ {s : State} {q : ℕ} (a : AtQueue s q) where
 
   pub queue-range : (1 ≤ q) × (q ≤ queue-limit)
   queue-range = from-within 1 queue-limit q (a .valid-queue)
+
+  -- Its cell lies in its array.
+  pub queue-fits : q < 17
+  queue-fits = let r = queue-range in omega arith
+
+  pub queue-offset : Fits w64 (q * 72)
+  queue-offset = let r = queue-range in record { fits = omega arith }
 
   pub cell-defined : T (cell .defined)
   cell-defined = subst (λ (y : QueueRow). T (y .defined)) (row-is s (queue q) (a .valid-queue)) (a .defined)
@@ -206,11 +215,30 @@ module _ {s : State} {q : ℕ} (a : AtQueue s q) where
   pub room-left : T (has-room x) → length (stored (cell .ring)) < cell .ring .capacity
   room-left t = rw (words-are, capacity-is) at (ltb-yes {a = length (x .words)} {b = x .capacity} t)
 
-  pub has-room-now : length (stored (cell .ring)) < cell .ring .capacity → T (has-room x)
-  has-room-now h = rw (words-are, capacity-is) (lt→ltb _ _ h)
+  -- What the tests of the count and the capacity say.
+  module _ {count capacity : ℕ} (count-is : count ≡ length (stored (cell .ring))) (capacity-told : capacity ≡ cell .ring .capacity) where
+    pub has-room-now : count < capacity → T (has-room x)
+    has-room-now h = rw (words-are, capacity-is) (lt→ltb _ _ (rw (count-is, capacity-told) at h))
 
-  pub no-room : cell .ring .capacity ≤ length (stored (cell .ring)) → T (not (has-room x))
-  no-room h = rw (words-are, capacity-is) (no-ltb h)
+    pub no-room : capacity ≤ count → T (not (has-room x))
+    no-room h = rw (words-are, capacity-is) (no-ltb (rw (count-is, capacity-told) at h))
+
+  module _ {count : ℕ} (count-is : count ≡ length (stored (cell .ring))) where
+    pub words-stored : count ≢ 0 → T (not (empty (x .words)))
+    unfolding empty
+    words-stored f = rw words-are (go (stored (cell .ring)) (λ e. f (count-is ∙ e)))
+      where
+        go : (l : List ℕ) → length l ≢ 0 → T (not (empty l))
+        go [] f = f refl
+        go (y ∷ l) f = tt
+
+    pub nothing-stored : count ≡ 0 → T (empty (x .words))
+    unfolding empty
+    nothing-stored e = rw words-are (go (stored (cell .ring)) (sym count-is ∙ e))
+      where
+        go : (l : List ℕ) → length l ≡ 0 → T (empty l)
+        go [] e = tt
+        go (y ∷ l) e = absurd (omega arith)
 
   pub some-word : T (not (empty (x .words))) → 0 < length (stored (cell .ring))
   unfolding empty
@@ -219,22 +247,6 @@ module _ {s : State} {q : ℕ} (a : AtQueue s q) where
       go : (l : List ℕ) → T (not (empty l)) → 0 < length l
       go [] n = absurd n
       go (y ∷ l) n = omega arith
-
-  pub words-stored : length (stored (cell .ring)) ≢ 0 → T (not (empty (x .words)))
-  unfolding empty
-  words-stored f = rw words-are (go (stored (cell .ring)) f)
-    where
-      go : (l : List ℕ) → length l ≢ 0 → T (not (empty l))
-      go [] f = f refl
-      go (y ∷ l) f = tt
-
-  pub nothing-stored : length (stored (cell .ring)) ≡ 0 → T (empty (x .words))
-  unfolding empty
-  nothing-stored e = rw words-are (go (stored (cell .ring)) e)
-    where
-      go : (l : List ℕ) → length l ≡ 0 → T (empty l)
-      go [] e = tt
-      go (y ∷ l) e = absurd (omega arith)
 
   -- A popped ring has room.
   pub room-again : {word : ℕ} {r : Ring} → Popped (cell .ring) word r → length (stored r) < r .capacity
@@ -264,24 +276,32 @@ module _ {s : State} {q : ℕ} (a : AtQueue s q) where
     pub sender-range : (1 ≤ sender) × (sender ≤ task-limit)
     sender-range = from-within 1 task-limit sender (waiter-valid (a .sound) (senders-of q) in-senders)
 
+    pub sender-fits : sender < 33
+    sender-fits = let r = sender-range in omega arith
+
+    pub sender-offset : Fits w64 (sender * 24)
+    sender-offset = let r = sender-range in record { fits = omega arith }
+
     pub sender-word : held-word (task-at s sender .wait) ≡ held-word (abs s .rows (task (headD (x .senders) 0)) .wait)
     sender-word = ap (λ (y : TaskRow). held-word (y .wait)) (sym (row-is s (task sender) (waiter-valid (a .sound) (senders-of q) in-senders)))
         ∙ ap (λ t. held-word (abs s .rows (task t) .wait)) head-is
 
   -- Whether a receiver or a sender waits, from the first number of its chain.
-  pub no-receiver : headD (chain-list s (16 + q)) 0 ≡ 0 → T (empty (x .receivers))
-  unfolding empty
-  no-receiver e = rw (nobody-waits on-receivers (receivers-of q) receivers-chain e) tt
+  module _ {first : ℕ} (first-is : first ≡ headD (chain-list s (16 + q)) 0) where
+    pub no-receiver : first ≡ 0 → T (empty (x .receivers))
+    unfolding empty
+    no-receiver e = rw (nobody-waits on-receivers (receivers-of q) receivers-chain (sym first-is ∙ e)) tt
 
-  pub no-sender : headD (chain-list s q) 0 ≡ 0 → T (empty (x .senders))
-  unfolding empty
-  no-sender e = rw (nobody-waits on-senders (senders-of q) senders-chain e) tt
+    pub some-receiver : first ≢ 0 → T (not (empty (x .receivers)))
+    some-receiver f = someone-waits on-receivers (receivers-of q) receivers-chain (λ e. f (first-is ∙ e))
 
-  pub some-receiver : headD (chain-list s (16 + q)) 0 ≢ 0 → T (not (empty (x .receivers)))
-  some-receiver f = someone-waits on-receivers (receivers-of q) receivers-chain f
+  module _ {first : ℕ} (first-is : first ≡ headD (chain-list s q) 0) where
+    pub no-sender : first ≡ 0 → T (empty (x .senders))
+    unfolding empty
+    no-sender e = rw (nobody-waits on-senders (senders-of q) senders-chain (sym first-is ∙ e)) tt
 
-  pub some-sender : headD (chain-list s q) 0 ≢ 0 → T (not (empty (x .senders)))
-  some-sender f = someone-waits on-senders (senders-of q) senders-chain f
+    pub some-sender : first ≢ 0 → T (not (empty (x .senders)))
+    some-sender f = someone-waits on-senders (senders-of q) senders-chain (λ e. f (first-is ∙ e))
 
   -- ── The cases in order ──
 

@@ -1,19 +1,17 @@
 -- `receive` goes through its cases in order: each test says which branch the program takes.
-use mathlib.Core.Path.{sym, _∙_}
-use native.Mathlib.Omega.{arith}
 use Rattle.model.specs.Codes.{finished}
 use Rattle.record.proofs.Laws.{stays}
 use Rattle.waits.proofs.Laws.{has-chain}
 use borrow.Author.Needs.{needs}
-use Rattle.data_queues.proofs.Laws.{queue-range, on-senders, words-stored, nothing-stored, no-sender, some-sender, receives-oldest, receives-and-refills, receives-from-sender, receives-otherwise}
+use Rattle.data_queues.proofs.Laws.{queue-fits, queue-offset, on-senders, words-stored, nothing-stored, no-sender, some-sender, receives-oldest, receives-and-refills, receives-from-sender, receives-otherwise}
 use Rattle.data_queues.proofs.receive.Statement.{statement}
 use Rattle.data_queues.proofs.receive.Tie as tie
 
 mul-queue : tie.Need-mul-queue
-mul-queue c = let h = queue-range (c .pre .0) in omega arith
+mul-queue c = queue-offset (c .pre .0)
 
 element-copy-out-queue : tie.Need-element-copy-out-queue
-element-copy-out-queue c = let h = queue-range (c .pre .0) in omega arith
+element-copy-out-queue c = queue-fits (c .pre .0)
 
 first-requires : tie.Need-first-requires
 first-requires c κs = has-chain (on-senders (c .before .before .before .before .pre .0))
@@ -22,22 +20,22 @@ length-requires : tie.Need-length-requires
 length-requires c κs = search needs
 
 take-oldest-requires : tie.Need-take-oldest-requires
-take-oldest-requires c κs = let a = c .before .before .before .before .before .before .before .before .pre .0 in (a, words-stored a (λ e. c .before .if1 .taken (c .before .before .length .ensures ∙ e)))
+take-oldest-requires c κs = let a = c .before .before .before .before .before .before .before .before .pre .0 in (a, words-stored a (c .before .before .length .ensures) (c .before .if1 .taken))
 
 returns : tie.Need-returns
-returns c = let a = c .before .before .before .before .before .before .before .before .before .pre .0 in receives-oldest a _ (words-stored a (λ e. c .before .before .if1 .taken (c .before .before .before .length .ensures ∙ e))) (no-sender a (sym (c .before .before .before .before .first .ensures) ∙ c .before .if2 .taken)) (c .take-oldest .ensures)
+returns c = let a = c .before .before .before .before .before .before .before .before .before .pre .0 in receives-oldest a _ (words-stored a (c .before .before .before .length .ensures) (c .before .before .if1 .taken)) (no-sender a (c .before .before .before .before .first .ensures) (c .before .if2 .taken)) (c .take-oldest .ensures)
 
 take-oldest-and-refill-requires : tie.Need-take-oldest-and-refill-requires
-take-oldest-and-refill-requires c κs = let a = c .before .before .before .before .before .before .before .before .pre .0 in (a, words-stored a (λ e. c .before .if1 .taken (c .before .before .length .ensures ∙ e)), some-sender a (λ e. c .if2 .left (c .before .before .before .first .ensures ∙ e)))
+take-oldest-and-refill-requires c κs = let a = c .before .before .before .before .before .before .before .before .pre .0 in (a, words-stored a (c .before .before .length .ensures) (c .before .if1 .taken), some-sender a (c .before .before .before .first .ensures) (c .if2 .left))
 
 returns-2 : tie.Need-returns-2
-returns-2 c = let a = c .before .before .before .before .before .before .before .before .before .pre .0 in receives-and-refills a _ (words-stored a (λ e. c .before .before .if1 .taken (c .before .before .before .length .ensures ∙ e))) (some-sender a (λ e. c .before .if2 .left (c .before .before .before .before .first .ensures ∙ e))) (c .take-oldest-and-refill .ensures)
+returns-2 c = let a = c .before .before .before .before .before .before .before .before .before .pre .0 in receives-and-refills a _ (words-stored a (c .before .before .before .length .ensures) (c .before .before .if1 .taken)) (some-sender a (c .before .before .before .before .first .ensures) (c .before .if2 .left)) (c .take-oldest-and-refill .ensures)
 
 take-from-sender-requires : tie.Need-take-from-sender-requires
-take-from-sender-requires c κs = let a = c .before .before .before .before .before .before .before .before .pre .0 in (a, some-sender a (λ e. c .if3 .taken (c .before .before .before .first .ensures ∙ e)))
+take-from-sender-requires c κs = let a = c .before .before .before .before .before .before .before .before .pre .0 in (a, some-sender a (c .before .before .before .first .ensures) (c .if3 .taken))
 
 returns-3 : tie.Need-returns-3
-returns-3 c = let a = c .before .before .before .before .before .before .before .before .before .pre .0 in receives-from-sender a _ (nothing-stored a (sym (c .before .before .before .length .ensures) ∙ c .before .before .if1 .left)) (some-sender a (λ e. c .before .if3 .taken (c .before .before .before .before .first .ensures ∙ e))) (c .take-from-sender .ensures)
+returns-3 c = let a = c .before .before .before .before .before .before .before .before .before .pre .0 in receives-from-sender a _ (nothing-stored a (c .before .before .before .length .ensures) (c .before .before .if1 .left)) (some-sender a (c .before .before .before .before .first .ensures) (c .before .if3 .taken)) (c .take-from-sender .ensures)
 
 enum-told : tie.Need-enum-told
 enum-told c = search needs
@@ -52,10 +50,10 @@ wait-to-receive-requires : tie.Need-wait-to-receive-requires
 wait-to-receive-requires c κs = (c .before .before .before .before .before .before .before .before .before .before .before .pre .0, rw (c .before .empty .given .1) at (c .before .before .before .before .before .before .before .before .before .before .before .pre .1))
 
 returns-4 : tie.Need-returns-4
-returns-4 c = let a = c .before .before .before .before .before .before .before .before .before .before .before .pre .0 in receives-otherwise a _ (nothing-stored a (sym (c .before .before .before .before .before .length .ensures) ∙ c .before .before .before .before .if1 .left)) (no-sender a (sym (c .before .before .before .before .before .before .first .ensures) ∙ c .before .before .before .if3 .left)) (rw (c .before .enum-told .given .1) (stays (a .sound .readable) (c .finished .ensures)))
+returns-4 c = let a = c .before .before .before .before .before .before .before .before .before .before .before .pre .0 in receives-otherwise a _ (nothing-stored a (c .before .before .before .before .before .length .ensures) (c .before .before .before .before .if1 .left)) (no-sender a (c .before .before .before .before .before .before .first .ensures) (c .before .before .before .if3 .left)) (rw (c .before .enum-told .given .1) (stays (a .sound .readable) (c .finished .ensures)))
 
 returns-5 : tie.Need-returns-5
-returns-5 c = let a = c .before .before .before .before .before .before .before .before .before .before .before .before .pre .0 in receives-otherwise a _ (nothing-stored a (sym (c .before .before .before .before .before .before .length .ensures) ∙ c .before .before .before .before .before .if1 .left)) (no-sender a (sym (c .before .before .before .before .before .before .before .first .ensures) ∙ c .before .before .before .before .if3 .left)) (rw (c .before .before .empty .given .1) (c .wait-to-receive .ensures))
+returns-5 c = let a = c .before .before .before .before .before .before .before .before .before .before .before .before .pre .0 in receives-otherwise a _ (nothing-stored a (c .before .before .before .before .before .before .length .ensures) (c .before .before .before .before .before .if1 .left)) (no-sender a (c .before .before .before .before .before .before .before .first .ensures) (c .before .before .before .before .if3 .left)) (rw (c .before .before .empty .given .1) (c .wait-to-receive .ensures))
 
 pub receive-spec : {M : Type 1} → statement M
 receive-spec =

@@ -1,5 +1,4 @@
 -- `send` goes through its three cases in order: each test says which branch the program takes.
-use mathlib.Core.Path.{sym, _∙_}
 use native.Mathlib.Omega.{arith}
 use Rattle.model.specs.Codes.{finished}
 use Rattle.record.proofs.Laws.{stays}
@@ -7,7 +6,7 @@ use Rattle.data_queues.specs.Bodies.{FullReady}
 use Rattle.data_queues.specs.declared.Full.the-variants.{Replace}
 use Rattle.waits.proofs.Laws.{has-chain}
 use borrow.Author.Needs.{needs}
-use Rattle.data_queues.proofs.Laws.{queue-range, on-receivers, has-room-now, no-room, full-words, no-receiver, some-receiver, sends-to-receiver, sends-to-store, sends-otherwise}
+use Rattle.data_queues.proofs.Laws.{queue-range, queue-fits, queue-offset, on-receivers, has-room-now, no-room, full-words, no-receiver, some-receiver, sends-to-receiver, sends-to-store, sends-otherwise}
 use Rattle.data_queues.proofs.send.Statement.{statement}
 use Rattle.data_queues.proofs.send.Tie as tie
 
@@ -18,16 +17,16 @@ first-requires : tie.Need-first-requires
 first-requires c κs = has-chain (on-receivers (c .before .before .pre .0))
 
 deliver-requires : tie.Need-deliver-requires
-deliver-requires c κs = let a = c .before .before .before .before .pre .0 in (a, some-receiver a (λ e. c .if1 .taken (c .before .first .ensures ∙ e)))
+deliver-requires c κs = let a = c .before .before .before .before .pre .0 in (a, some-receiver a (c .before .first .ensures) (c .if1 .taken))
 
 returns : tie.Need-returns
-returns c = let a = c .before .before .before .before .before .pre .0 in sends-to-receiver a _ _ (some-receiver a (λ e. c .before .if1 .taken (c .before .before .first .ensures ∙ e))) (c .deliver .ensures)
+returns c = let a = c .before .before .before .before .before .pre .0 in sends-to-receiver a _ _ (some-receiver a (c .before .before .first .ensures) (c .before .if1 .taken)) (c .deliver .ensures)
 
 mul-queue : tie.Need-mul-queue
-mul-queue c = let h = queue-range (c .before .before .before .before .pre .0) in omega arith
+mul-queue c = queue-offset (c .before .before .before .before .pre .0)
 
 element-copy-out-queue : tie.Need-element-copy-out-queue
-element-copy-out-queue c = let h = queue-range (c .before .before .before .before .pre .0) in omega arith
+element-copy-out-queue c = queue-fits (c .before .before .before .before .pre .0)
 
 length-requires : tie.Need-length-requires
 length-requires c κs = search needs
@@ -36,10 +35,10 @@ capacity-requires : tie.Need-capacity-requires
 capacity-requires c κs = search needs
 
 store-requires : tie.Need-store-requires
-store-requires c κs = let a = c .before .before .before .before .before .before .before .before .before .pre .0 in (a, has-room-now a (let l = c .before .before .length .ensures in let k = c .before .capacity .ensures in let h = c .if2 .taken in omega arith))
+store-requires c κs = let a = c .before .before .before .before .before .before .before .before .before .pre .0 in (a, has-room-now a (c .before .before .length .ensures) (c .before .capacity .ensures) (c .if2 .taken))
 
 returns-2 : tie.Need-returns-2
-returns-2 c = let a = c .before .before .before .before .before .before .before .before .before .before .pre .0 in sends-to-store a _ _ (no-receiver a (sym (c .before .before .before .before .before .before .before .first .ensures) ∙ c .before .before .before .before .before .before .if1 .left)) (has-room-now a (let l = c .before .before .before .length .ensures in let k = c .before .before .capacity .ensures in let h = c .before .if2 .taken in omega arith)) (c .store .ensures)
+returns-2 c = let a = c .before .before .before .before .before .before .before .before .before .before .pre .0 in sends-to-store a _ _ (no-receiver a (c .before .before .before .before .before .before .before .first .ensures) (c .before .before .before .before .before .before .if1 .left)) (has-room-now a (c .before .before .before .length .ensures) (c .before .before .capacity .ensures) (c .before .if2 .taken)) (c .store .ensures)
 
 enum-told : tie.Need-enum-told
 enum-told c = search needs
@@ -57,16 +56,16 @@ enum-told-2 : tie.Need-enum-told-2
 enum-told-2 c = search needs
 
 replace-oldest-requires : tie.Need-replace-oldest-requires
-replace-oldest-requires c κs = let a = c .before .before .before .before .before .before .before .before .before .before .before .pre .0 in let full = no-room a (let l = c .before .before .before .before .length .ensures in let k = c .before .before .before .capacity .ensures in let h = c .before .before .if2 .left in omega arith) in let room : FullReady _ _ Replace = rw (c .enum-told2 .given .1) at (c .before .before .before .before .before .before .before .before .before .before .before .pre .1) in (a, full-words a full (room (no-receiver a (sym (c .before .before .before .before .before .before .before .before .first .ensures) ∙ c .before .before .before .before .before .before .before .if1 .left))))
+replace-oldest-requires c κs = let a = c .before .before .before .before .before .before .before .before .before .before .before .pre .0 in let full = no-room a (c .before .before .before .before .length .ensures) (c .before .before .before .capacity .ensures) (c .before .before .if2 .left) in let room : FullReady _ _ Replace = rw (c .enum-told2 .given .1) at (c .before .before .before .before .before .before .before .before .before .before .before .pre .1) in (a, full-words a full (room (no-receiver a (c .before .before .before .before .before .before .before .before .first .ensures) (c .before .before .before .before .before .before .before .if1 .left))))
 
 returns-3 : tie.Need-returns-3
-returns-3 c = let a = c .before .before .before .before .before .before .before .before .before .before .before .before .pre .0 in sends-otherwise a _ _ (no-receiver a (sym (c .before .before .before .before .before .before .before .before .before .first .ensures) ∙ c .before .before .before .before .before .before .before .before .if1 .left)) (no-room a (let l = c .before .before .before .before .before .length .ensures in let k = c .before .before .before .before .capacity .ensures in let h = c .before .before .before .if2 .left in omega arith)) (rw (c .before .enum-told .given .1) (stays (a .sound .readable) (c .finished .ensures)))
+returns-3 c = let a = c .before .before .before .before .before .before .before .before .before .before .before .before .pre .0 in sends-otherwise a _ _ (no-receiver a (c .before .before .before .before .before .before .before .before .before .first .ensures) (c .before .before .before .before .before .before .before .before .if1 .left)) (no-room a (c .before .before .before .before .before .length .ensures) (c .before .before .before .before .capacity .ensures) (c .before .before .before .if2 .left)) (rw (c .before .enum-told .given .1) (stays (a .sound .readable) (c .finished .ensures)))
 
 returns-4 : tie.Need-returns-4
-returns-4 c = let a = c .before .before .before .before .before .before .before .before .before .before .before .before .before .pre .0 in sends-otherwise a _ _ (no-receiver a (sym (c .before .before .before .before .before .before .before .before .before .before .first .ensures) ∙ c .before .before .before .before .before .before .before .before .before .if1 .left)) (no-room a (let l = c .before .before .before .before .before .before .length .ensures in let k = c .before .before .before .before .before .capacity .ensures in let h = c .before .before .before .before .if2 .left in omega arith)) (rw (c .before .before .full .given .1) (c .wait-to-send .ensures))
+returns-4 c = let a = c .before .before .before .before .before .before .before .before .before .before .before .before .before .pre .0 in sends-otherwise a _ _ (no-receiver a (c .before .before .before .before .before .before .before .before .before .before .first .ensures) (c .before .before .before .before .before .before .before .before .before .if1 .left)) (no-room a (c .before .before .before .before .before .before .length .ensures) (c .before .before .before .before .before .capacity .ensures) (c .before .before .before .before .if2 .left)) (rw (c .before .before .full .given .1) (c .wait-to-send .ensures))
 
 returns-5 : tie.Need-returns-5
-returns-5 c = let a = c .before .before .before .before .before .before .before .before .before .before .before .before .pre .0 in sends-otherwise a _ _ (no-receiver a (sym (c .before .before .before .before .before .before .before .before .before .first .ensures) ∙ c .before .before .before .before .before .before .before .before .if1 .left)) (no-room a (let l = c .before .before .before .before .before .length .ensures in let k = c .before .before .before .before .capacity .ensures in let h = c .before .before .before .if2 .left in omega arith)) (rw (c .before .enum-told2 .given .1) (c .replace-oldest .ensures))
+returns-5 c = let a = c .before .before .before .before .before .before .before .before .before .before .before .before .pre .0 in sends-otherwise a _ _ (no-receiver a (c .before .before .before .before .before .before .before .before .before .first .ensures) (c .before .before .before .before .before .before .before .before .if1 .left)) (no-room a (c .before .before .before .before .before .length .ensures) (c .before .before .before .before .capacity .ensures) (c .before .before .before .if2 .left)) (rw (c .before .enum-told2 .given .1) (c .replace-oldest .ensures))
 
 pub send-spec : {M : Type 1} → statement M
 send-spec =

@@ -1,25 +1,24 @@
 -- `store` stores the word behind the others: by what the ring's push promises.
-use native.Mathlib.Omega.{arith}
 use Rattle.model.specs.Codes.{finished}
 use borrow.Author.Needs.{needs}
-use Rattle.data_queues.proofs.Laws.{queue-range, ring-in-range, room-left, stores}
+use Rattle.data_queues.proofs.Laws.{queue-fits, queue-offset, ring-in-range, room-left, stores}
 use Rattle.data_queues.proofs.store.Statement.{statement}
 use Rattle.data_queues.proofs.store.Tie as tie
 
 mul-queue : tie.Need-mul-queue
-mul-queue c = let h = queue-range (c .pre .0) in omega arith
+mul-queue c = queue-offset (c .pre .0)
 
 element-copy-out-queue : tie.Need-element-copy-out-queue
-element-copy-out-queue c = let h = queue-range (c .pre .0) in omega arith
+element-copy-out-queue c = queue-fits (c .pre .0)
 
 push-requires : tie.Need-push-requires
 push-requires c κs = (ring-in-range (c .before .pre .0), room-left (c .before .pre .0) (c .before .pre .1))
 
 mul-t8 : tie.Need-mul-t8
-mul-t8 c = let h = queue-range (c .before .before .pre .0) in omega arith
+mul-t8 c = queue-offset (c .before .before .pre .0)
 
 element-set-from-state : tie.Need-element-set-from-state
-element-set-from-state c = let h = queue-range (c .before .before .pre .0) in omega arith
+element-set-from-state c = queue-fits (c .before .before .pre .0)
 
 finished-requires : tie.Need-finished-requires
 finished-requires c κs = search needs

@@ -1,12 +1,11 @@
 -- `take_from_sender` hands out the head sender's word and releases it: by what a release promises.
 use mathlib.Core.Path.{ap, _∙_}
-use native.Mathlib.Omega.{arith}
 use Rattle.model.specs.Codes.{finished}
 use Rattle.model.specs.WellFormed.{senders-of}
 use Rattle.model.specs.declared.Code.the-variants.{Ok as E-OK}
 use Rattle.waits.proofs.Laws.{has-chain, releasable}
 use borrow.Author.Needs.{needs}
-use Rattle.data_queues.proofs.Laws.{on-senders, senders-chain, sender-range, sender-word, takes-from-sender}
+use Rattle.data_queues.proofs.Laws.{on-senders, senders-chain, sender-fits, sender-offset, sender-word, takes-from-sender}
 use Rattle.data_queues.proofs.take_from_sender.Statement.{statement}
 use Rattle.data_queues.proofs.take_from_sender.Tie as tie
 
@@ -17,10 +16,10 @@ cast-sender : tie.Need-cast-sender
 cast-sender c = search needs
 
 mul-task : tie.Need-mul-task
-mul-task c = let h = sender-range (c .before .before .before .pre .0) (c .first .ensures) (c .before .before .before .pre .1) in omega arith
+mul-task c = sender-offset (c .before .before .before .pre .0) (c .first .ensures) (c .before .before .before .pre .1)
 
 element-copy-out-task : tie.Need-element-copy-out-task
-element-copy-out-task c = let h = sender-range (c .before .before .before .pre .0) (c .first .ensures) (c .before .before .before .pre .1) in omega arith
+element-copy-out-task c = sender-fits (c .before .before .before .pre .0) (c .first .ensures) (c .before .before .before .pre .1)
 
 held-word-requires : tie.Need-held-word-requires
 held-word-requires c κs = search needs

@@ -1,11 +1,10 @@
 -- `take_oldest_and_refill` hands out the oldest word, stores the head sender's and releases it: by what the ring and a release promise.
 use mathlib.Core.Path.{_∙_}
-use native.Mathlib.Omega.{arith}
 use Rattle.model.specs.Codes.{finished}
 use Rattle.model.specs.WellFormed.{senders-of}
 use Rattle.waits.proofs.Laws.{has-chain, releasable}
 use borrow.Author.Needs.{needs}
-use Rattle.data_queues.proofs.Laws.{queue-range, ring-in-range, on-senders, senders-chain, some-word, room-again, sender-range, sender-word, takes-oldest-and-refills}
+use Rattle.data_queues.proofs.Laws.{queue-fits, queue-offset, ring-in-range, on-senders, senders-chain, some-word, room-again, sender-fits, sender-offset, sender-word, takes-oldest-and-refills}
 use Rattle.data_queues.proofs.take_oldest_and_refill.Statement.{statement}
 use Rattle.data_queues.proofs.take_oldest_and_refill.Tie as tie
 
@@ -16,16 +15,16 @@ cast-sender : tie.Need-cast-sender
 cast-sender c = search needs
 
 mul-task : tie.Need-mul-task
-mul-task c = let h = sender-range (c .before .before .before .pre .0) (c .first .ensures) (c .before .before .before .pre .2) in omega arith
+mul-task c = sender-offset (c .before .before .before .pre .0) (c .first .ensures) (c .before .before .before .pre .2)
 
 element-copy-out-task : tie.Need-element-copy-out-task
-element-copy-out-task c = let h = sender-range (c .before .before .before .pre .0) (c .first .ensures) (c .before .before .before .pre .2) in omega arith
+element-copy-out-task c = sender-fits (c .before .before .before .pre .0) (c .first .ensures) (c .before .before .before .pre .2)
 
 mul-queue : tie.Need-mul-queue
-mul-queue c = let h = queue-range (c .before .before .before .before .pre .0) in omega arith
+mul-queue c = queue-offset (c .before .before .before .before .pre .0)
 
 element-copy-out-queue : tie.Need-element-copy-out-queue
-element-copy-out-queue c = let h = queue-range (c .before .before .before .before .pre .0) in omega arith
+element-copy-out-queue c = queue-fits (c .before .before .before .before .pre .0)
 
 pop-requires : tie.Need-pop-requires
 pop-requires c κs = (ring-in-range (c .before .before .before .before .before .pre .0), some-word (c .before .before .before .before .before .pre .0) (c .before .before .before .before .before .pre .1))
@@ -40,10 +39,10 @@ release-requires : tie.Need-release-requires
 release-requires c κs = releasable (on-senders (c .before .before .before .before .before .before .before .before .pre .0)) (senders-of _) (senders-chain (c .before .before .before .before .before .before .before .before .pre .0)) (c .before .before .before .before .before .before .before .before .pre .2)
 
 mul-t14 : tie.Need-mul-t14
-mul-t14 c = let h = queue-range (c .before .before .before .before .before .before .before .before .before .pre .0) in omega arith
+mul-t14 c = queue-offset (c .before .before .before .before .before .before .before .before .before .pre .0)
 
 element-set-from-released : tie.Need-element-set-from-released
-element-set-from-released c = let h = queue-range (c .before .before .before .before .before .before .before .before .before .pre .0) in omega arith
+element-set-from-released c = queue-fits (c .before .before .before .before .before .before .before .before .before .pre .0)
 
 finished-requires : tie.Need-finished-requires
 finished-requires c κs = search needs

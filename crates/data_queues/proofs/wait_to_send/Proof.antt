@@ -1,16 +1,15 @@
 -- `wait_to_send` puts the caller among the senders: by what a join promises.
 use mathlib.Core.Path.{sym, ap}
-use native.Mathlib.Omega.{arith}
 use lib.Dec.{eqb}
-use Rattle.data_queues.proofs.Laws.{queue-range, on-senders, attribute-is, waits-to-send}
+use Rattle.data_queues.proofs.Laws.{queue-fits, queue-offset, on-senders, attribute-is, waits-to-send}
 use Rattle.data_queues.proofs.wait_to_send.Statement.{statement}
 use Rattle.data_queues.proofs.wait_to_send.Tie as tie
 
 mul-queue : tie.Need-mul-queue
-mul-queue c = let h = queue-range (c .pre .0) in omega arith
+mul-queue c = queue-offset (c .pre .0)
 
 element-copy-out-queue : tie.Need-element-copy-out-queue
-element-copy-out-queue c = let h = queue-range (c .pre .0) in omega arith
+element-copy-out-queue c = queue-fits (c .pre .0)
 
 join-requires : tie.Need-join-requires
 join-requires c κs = record { on = on-senders (c .before .before .pre .0); defined = c .before .before .pre .1 .defined; able = c .before .before .pre .1 .able }

@@ -1,7 +1,6 @@
 -- `del_dtq` ends all waits, then makes the queue undefined.
-use native.Mathlib.Omega.{arith}
 use Rattle.model.specs.WellFormed.{senders-of}
-use Rattle.data_queues.proofs.Laws.{queue-range, on-senders, on-receivers, senders-chain}
+use Rattle.data_queues.proofs.Laws.{queue-fits, on-senders, on-receivers, senders-chain}
 use Rattle.data_queues.proofs.Calls.{deletes-at, deletes-queue}
 use borrow.Author.Needs.{needs}
 use Rattle.data_queues.proofs.DataQueues.del_dtq.Statement.{statement}
@@ -26,7 +25,7 @@ mul-t11 : tie.Need-mul-t11
 mul-t11 c = search needs
 
 element-set-from-alone : tie.Need-element-set-from-alone
-element-set-from-alone c = let h = queue-range (deletes-at (c .before .before .before .before .before .pre)) in omega arith
+element-set-from-alone c = queue-fits (deletes-at (c .before .before .before .before .before .pre))
 
 finished-requires : tie.Need-finished-requires
 finished-requires c κs = search needs

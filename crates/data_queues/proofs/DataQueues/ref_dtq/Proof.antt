@@ -1,7 +1,7 @@
 -- `ref_dtq` reads the first numbers of two chains and the count.
 use native.Mathlib.Omega.{arith}
 use Rattle.waits.proofs.Laws.{has-chain}
-use Rattle.data_queues.proofs.Laws.{queue-range, on-senders, on-receivers}
+use Rattle.data_queues.proofs.Laws.{queue-range, queue-fits, queue-offset, on-senders, on-receivers}
 use Rattle.data_queues.proofs.Calls.{refers-at, refers-to-queue}
 use borrow.Author.Needs.{needs}
 use Rattle.data_queues.proofs.DataQueues.ref_dtq.Statement.{statement}
@@ -20,10 +20,10 @@ first-requires-2 : tie.Need-first-requires-2
 first-requires-2 c κs = has-chain (on-receivers (refers-at (c .before .before .before .before .before .before .before .pre)))
 
 mul-queue : tie.Need-mul-queue
-mul-queue c = let h = queue-range (refers-at (c .before .before .before .before .before .before .before .before .pre)) in omega arith
+mul-queue c = queue-offset (refers-at (c .before .before .before .before .before .before .before .before .pre))
 
 element-copy-out-queue : tie.Need-element-copy-out-queue
-element-copy-out-queue c = let h = queue-range (refers-at (c .before .before .before .before .before .before .before .before .pre)) in omega arith
+element-copy-out-queue c = queue-fits (refers-at (c .before .before .before .before .before .before .before .before .pre))
 
 length-requires : tie.Need-length-requires
 length-requires c κs = search needs
