@@ -1,5 +1,6 @@
 // Plays the sixteen runs of document 01 on the kernel and prints them: a line for each run, in it a sentence for each group of like calls.
-// What is printed of an answer, and the counter behind a tick, come from what the kernel hands back.
+// What is printed of an answer, and the counter that a tick leaves, come from what the kernel hands back. Every call's answer is printed, also
+// where document 01 writes one E_OK for two calls.
 use kernel::Kernel;
 use libc::STDOUT_FILENO;
 use model::Answer;
@@ -488,8 +489,8 @@ fn print_calls(sentence: Sentence) {
     print(b": ");
 }
 
-// ref and look give three words; a receive gives the word or message, a tick and snd_mbx a count: "10", "a 0".
-fn print_words(number: u8, answer: Answer) {
+// What an accepted call gives: ref and look three words, a receive the word or message, a tick and snd_mbx a count ("a 0"), any other its code.
+fn print_words(number: u8, code: Code, answer: Answer) {
     if number == REF || number == LOOK {
         print_number(answer.a);
         print(b", ");
@@ -507,7 +508,7 @@ fn print_words(number: u8, answer: Answer) {
         print_number(answer.a);
         return;
     }
-    print_code(Code::Ok);
+    print_code(code);
 }
 
 // Fetch gives the code and the word of an ended wait. Of the others the code is printed where it is an error, and else what the call gives.
@@ -519,7 +520,7 @@ fn print_finished(number: u8, code: Code, answer: Answer) {
         return;
     }
     match code {
-        Code::Ok => print_words(number, answer),
+        Code::Ok => print_words(number, code, answer),
         _ => print_code(code),
     }
 }

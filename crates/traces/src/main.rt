@@ -128,7 +128,7 @@ fn is_answer(record: &[u8; RECORD], answer: Answer) -> bool {
 // A trace as far as it has been read: the state, and the numbers of its line.
 struct Trace {
     state: State,
-    // False until the first record: then there is no line to print yet.
+    // False before the first record of the input: a new trace that starts there ends no other.
     begun: bool,
     records: u64,
     differ: u64,
