@@ -1,4 +1,3 @@
--- What is seen of a record, which call a number is, and what the step then owes.
-pub mod Views
+-- Which call a number is, and what the step owes.
 pub mod Numbers
 pub mod Outcomes

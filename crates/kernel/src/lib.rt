@@ -4,7 +4,6 @@ ghost use mathlib.Core.Path.{_≡_};
 ghost use Rattle.record.specs.Step.{refusal-of, Stepped};
 
 mod calls;
-mod seen;
 
 use model::Call;
 use model::Code;
@@ -44,7 +43,7 @@ impl Kernel {
         if number == 0 {
             return Tasks { state }.tick();
         }
-        let seen = seen::see(state, call);
+        let seen = views::see(state, call);
         let code = errors::refusal(call, seen);
         if !errors::accepts(code) {
             return refuse(state, code);

@@ -1,13 +1,13 @@
 -- What the bodies ask and leave: the promises of the chains and of the waits, followed along each program.
 use mathlib.Core.Path.{_≡_, refl, sym, ap, _∙_, subst}
-use mathlib.Core.Bool.{Bool, true, false, cond, _||_}
-use mathlib.Core.List.{List, [], _∷_, map, headD, List·Memᴰ as In}
+use mathlib.Core.Bool.{Bool, true, false, cond}
+use mathlib.Core.List.{List, [], map, headD, List·Memᴰ as In}
 use mathlib.Core.Logic.{_≢_}
 use Prim.Native.Nat.{ℕ, _+_, _≤_}
 use native.Mathlib.Omega.{arith}
-use lib.Dec.{T, eqb}
+use lib.Dec.{T}
 use lib.ListN.{length, getD, set, length-set, length-map}
-use Rattle.lists.specs.Lists.{empty, one-of}
+use Rattle.lists.specs.Lists.{empty}
 use Rattle.lists.proofs.Stands.{in-head}
 use Rattle.lists.proofs.Tests.{is-eqb, passed-test}
 use Rattle.rows.specs.Program.{update}
@@ -47,15 +47,6 @@ use Rattle.mailboxes.specs.Bodies.{mailbox-in, OnMailbox, Deliverable, Q
 use Rattle.mailboxes.proofs.Laws.{has-messages, message-inserted, message-popped}
 
 -- ── Tests ──
-
--- The code's test of two attributes is the definition's.
-pub either : (n x y : ℕ) → (eqb n x || eqb n y) ≡ one-of n (x ∷ y ∷ [])
-unfolding one-of
-either n x y = ap (λ b. eqb n x || b) (sym (or-false (eqb n y)))
-  where
-    or-false : (b : Bool) → (b || false) ≡ b
-    or-false true = refl
-    or-false false = refl
 
 -- What is kept under a test, kept once more.
 pub kept-twice : (b : Bool) (n : ℕ) → cond b (cond b n 0) 0 ≡ cond b n 0

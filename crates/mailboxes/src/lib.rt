@@ -4,7 +4,7 @@ ghost use mathlib.Core.Path.{_≡_};
 ghost use mathlib.Core.Bool.{cond};
 ghost use Prim.Native.Nat.{_≤_};
 ghost use lib.Dec.{T};
-ghost use Rattle.model.specs.Rows.{task, waiters-by-priority, messages-by-priority};
+ghost use Rattle.model.specs.Rows.{task};
 ghost use Rattle.model.specs.Mailboxes.{deliver-message, queue-message, take-message, wait-for-message, receive-message, cre-mbx, del-mbx, snd-mbx, rcv-mbx, prcv-mbx, trcv-mbx, ref-mbx};
 ghost use Rattle.record.specs.Meaning.{abs};
 ghost use Rattle.record.specs.Step.{Does, Accepted, Performs};
@@ -25,20 +25,6 @@ use record::Step;
 // The record, as the calls on mailboxes see it: a method stands in the crate of its type.
 pub struct Mailboxes {
     pub state: State,
-}
-
-// Whether waiters go by task priority.
-fn ranks_waiters(attribute: u8) -> bool
-    ensures { λ r. ⌜ r ≡ waiters-by-priority attribute ⌝ }
-{
-    (attribute == 1) | (attribute == 3)
-}
-
-// Whether messages go by their priority.
-pub fn ranks_messages(attribute: u8) -> bool
-    ensures { λ r. ⌜ r ≡ messages-by-priority attribute ⌝ }
-{
-    (attribute == 2) | (attribute == 3)
 }
 
 // A message priority, or a mailbox's highest, as it is kept: only where messages go by priority, and there it is 16 at most. Elsewhere a call
@@ -71,7 +57,7 @@ fn queue_message(mut state: State, b: u8, g: u8, priority: u32) -> Step
     let i = b as usize;
     let n = g as usize;
     let mailbox = state.mailboxes[i];
-    let ranked = ranks_messages(mailbox.attribute);
+    let ranked = parts::ranks_messages(mailbox.attribute);
     let rank = kept(ranked, priority);
     let behind = waits::limit(ranked, rank);
     let mut messages = state.messages;
@@ -111,7 +97,7 @@ fn wait_for_message(state: State, b: u8, me: u8, end: End) -> Step
 {
     let i = b as usize;
     let mailbox = state.mailboxes[i];
-    let ranked = ranks_waiters(mailbox.attribute);
+    let ranked = parts::ranks_waiters(mailbox.attribute);
     let wait = Wait::AtMailbox { mailbox: b, end };
     waits::join(state, WAITERS + i, me, ranked, wait)
 }
@@ -137,7 +123,7 @@ impl Mailboxes {
         let mut state = self.state;
         let i = call.object as usize;
         let attribute = call.attribute as u8;
-        let highest = kept(ranks_messages(attribute), call.value);
+        let highest = kept(parts::ranks_messages(attribute), call.value);
         state.mailboxes[i] = Mailbox {
             defined: true,
             attribute,

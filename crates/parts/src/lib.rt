@@ -1,5 +1,7 @@
 // The parts of the kernel's record: a task, a data queue, a mailbox, and whose each chain is. What each part means, and when it is sound, which is
-// document 01's word ("A sound record"), is in specs/. The tests are in the crates task_test and object_test; this crate has no code.
+// document 01's word ("A sound record"), is in specs/. The tests are in the crates task_test and object_test.
+ghost use mathlib.Core.Path.{_≡_};
+ghost use Rattle.model.specs.Rows.{waiters-by-priority, messages-by-priority};
 use model::Code;
 use model::Wait;
 use ring::Ring;
@@ -42,4 +44,18 @@ pub struct Mailbox {
     pub attribute: u8,
     // Kept with attribute 2 or 3 alone.
     pub highest: u8,
+}
+
+// Whether waiters go by task priority.
+pub fn ranks_waiters(attribute: u8) -> bool
+    ensures { λ r. ⌜ r ≡ waiters-by-priority attribute ⌝ }
+{
+    (attribute == 1) | (attribute == 3)
+}
+
+// Whether messages go by their priority.
+pub fn ranks_messages(attribute: u8) -> bool
+    ensures { λ r. ⌜ r ≡ messages-by-priority attribute ⌝ }
+{
+    (attribute == 2) | (attribute == 3)
 }

@@ -12,7 +12,7 @@ ghost use Rattle.model.specs.Waits.{able};
 ghost use Rattle.parts.specs.Mailboxes.{kept-attribute};
 ghost use Rattle.record.specs.Meaning.{mailbox-of, abs};
 ghost use Rattle.record.specs.Sound.{Sound};
-ghost use Rattle.kernel.specs.Seen.{task-shown, suspension-shown, queue-shown, MailboxShown};
+ghost use Rattle.views.specs.Shown.{task-shown, suspension-shown, queue-shown, MailboxShown};
 use chain::CELLS;
 use errors::MailboxSeen;
 use errors::QueueSeen;
@@ -154,7 +154,7 @@ fn see_mailbox(number: u8, mailbox: Mailbox, link: &[u8; CELLS]) -> MailboxSeen
     }
     let message = chain::first(link, MESSAGES, MESSAGE_CHAINS, number as usize);
     let attribute = attribute_of(mailbox);
-    let ranked = mailboxes::ranks_messages(attribute);
+    let ranked = parts::ranks_messages(attribute);
     let highest = highest_if(ranked, mailbox.highest);
     MailboxSeen {
         defined: mailbox.defined,

@@ -1,10 +1,10 @@
 -- `see_mailbox` shows what a mailbox's cell and its chain of messages say where the number is valid, and nothing elsewhere.
 use mathlib.Core.Path.{sym, _∙_}
 use borrow.Author.Tests.{not-true, not-false}
-use Rattle.kernel.proofs.Views.{no-mailbox-seen, mailbox-seen, valid-range}
+use Rattle.views.proofs.Laws.{no-mailbox-seen, mailbox-seen, valid-range}
 use borrow.Author.Needs.{needs}
-use Rattle.kernel.proofs.seen.see_mailbox.Statement.{statement}
-use Rattle.kernel.proofs.seen.see_mailbox.Tie as tie
+use Rattle.views.proofs.see_mailbox.Statement.{statement}
+use Rattle.views.proofs.see_mailbox.Tie as tie
 
 is-valid-requires : tie.Need-is-valid-requires
 is-valid-requires c κs = search needs

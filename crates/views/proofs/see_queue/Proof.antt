@@ -2,10 +2,10 @@
 use mathlib.Core.Path.{sym, _∙_}
 use native.Mathlib.Omega.{arith}
 use borrow.Author.Tests.{not-true, not-false}
-use Rattle.kernel.proofs.Views.{no-queue-seen, queue-seen, valid-range}
+use Rattle.views.proofs.Laws.{no-queue-seen, queue-seen, valid-range}
 use borrow.Author.Needs.{needs}
-use Rattle.kernel.proofs.seen.see_queue.Statement.{statement}
-use Rattle.kernel.proofs.seen.see_queue.Tie as tie
+use Rattle.views.proofs.see_queue.Statement.{statement}
+use Rattle.views.proofs.see_queue.Tie as tie
 
 is-valid-requires : tie.Need-is-valid-requires
 is-valid-requires c κs = search needs

@@ -1,10 +1,10 @@
 -- `see` shows all that a call has in view: kind by kind.
 use mathlib.Core.Path.{_∙_}
 use native.Mathlib.Omega.{arith}
-use Rattle.kernel.proofs.Views.{cell-fits, sees-task, sees-queue, sees-mailbox, sees-message, sees}
+use Rattle.views.proofs.Laws.{cell-fits, sees-task, sees-queue, sees-mailbox, sees-message, sees}
 use borrow.Author.Needs.{needs}
-use Rattle.kernel.proofs.seen.see.Statement.{statement}
-use Rattle.kernel.proofs.seen.see.Tie as tie
+use Rattle.views.proofs.see.Statement.{statement}
+use Rattle.views.proofs.see.Tie as tie
 
 cast-cell-of : tie.Need-cast-cell-of
 cast-cell-of c = search needs

@@ -1,10 +1,10 @@
 -- `see_task` shows what a task's cell says where the number is valid, and nothing elsewhere.
 use mathlib.Core.Path.{sym, _∙_}
 use borrow.Author.Tests.{not-true, not-false}
-use Rattle.kernel.proofs.Views.{no-task-seen, task-seen}
+use Rattle.views.proofs.Laws.{no-task-seen, task-seen}
 use borrow.Author.Needs.{needs}
-use Rattle.kernel.proofs.seen.see_task.Statement.{statement}
-use Rattle.kernel.proofs.seen.see_task.Tie as tie
+use Rattle.views.proofs.see_task.Statement.{statement}
+use Rattle.views.proofs.see_task.Tie as tie
 
 cast-is-valid : tie.Need-cast-is-valid
 cast-is-valid c = search needs

@@ -6,9 +6,9 @@ use Rattle.record.specs.Meaning.{mailbox-of}
 use mathlib.Core.Path.{_≡_, refl, ap}
 use native.Mathlib.Omega.{arith}
 use borrow.Author.Tests.{not-true, not-false}
-use Rattle.kernel.proofs.Views.{valid-range}
-use Rattle.kernel.proofs.seen.see_message.Statement.{statement}
-use Rattle.kernel.proofs.seen.see_message.Tie as tie
+use Rattle.views.proofs.Laws.{valid-range}
+use Rattle.views.proofs.see_message.Statement.{statement}
+use Rattle.views.proofs.see_message.Tie as tie
 
 returns : tie.Need-returns
 returns c = let out : within 1 64 (c .before .args .number) ≡ false = not-true _ (c .if1 .taken) in rw out refl

@@ -1,8 +1,8 @@
 -- `cell_of` gives the number where it is valid, and 0 elsewhere: by the test of its range.
 use mathlib.Core.Path.{refl, sym, _∙_}
 use borrow.Author.Needs.{needs}
-use Rattle.kernel.proofs.seen.cell_of.Statement.{statement}
-use Rattle.kernel.proofs.seen.cell_of.Tie as tie
+use Rattle.views.proofs.cell_of.Statement.{statement}
+use Rattle.views.proofs.cell_of.Tie as tie
 
 is-valid-requires : tie.Need-is-valid-requires
 is-valid-requires c κs = search needs

@@ -33,7 +33,7 @@ use Rattle.parts.specs.declared.Queue.{Queue}
 use Rattle.parts.specs.declared.Mailbox.{Mailbox}
 use Rattle.record.specs.declared.State.{State}
 use Rattle.record.specs.Meaning.{task-at, queue-at, mailbox-at, mailbox-of, cells-of, abs}
-use Rattle.kernel.specs.Seen.{task-shown, suspension-shown, queue-shown, MailboxShown}
+use Rattle.views.specs.Shown.{task-shown, suspension-shown, queue-shown, MailboxShown}
 
 -- ── From the cells read to what is in view ──
 
