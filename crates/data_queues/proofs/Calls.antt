@@ -36,12 +36,12 @@ use Rattle.record.proofs.Laws.{with-queue, queue-changed, meaning, does, does-r
 use Rattle.record.proofs.Accepted.{counter-of, view, performs, passed, valid-queue, the-queue-is, caller-is, caller-waits}
 use Rattle.waits.specs.Waiting.{chain-list, Cleared, AllEnded}
 use Rattle.waits.proofs.Laws.{rows-of, chain-of-queue}
-use Rattle.data_queues.proofs.Laws.{words-are, on-senders, on-receivers, senders-chain, receivers-chain}
-use Rattle.data_queues.specs.Bodies.{AtQueue, CanWait, when-full, FullReady, when-empty, EmptyReady}
-use Rattle.data_queues.specs.declared.Full.{Full}
-use Rattle.data_queues.specs.declared.Full.the-variants as full
-use Rattle.data_queues.specs.declared.Empty.{Empty}
-use Rattle.data_queues.specs.declared.Empty.the-variants as empty
+use Rattle.queue_bodies.proofs.Laws.{words-are, on-senders, on-receivers, senders-chain, receivers-chain}
+use Rattle.queue_bodies.specs.Bodies.{AtQueue, CanWait, when-full, FullReady, when-empty, EmptyReady}
+use Rattle.queue_bodies.specs.declared.Full.{Full}
+use Rattle.queue_bodies.specs.declared.Full.the-variants as full
+use Rattle.queue_bodies.specs.declared.Empty.{Empty}
+use Rattle.queue_bodies.specs.declared.Empty.the-variants as empty
 
 module _ {n : ℕ} {s : State} {c : Call} (a : Accepted n s c) where
   can-wait : T (task-only (numbered n c)) → CanWait s (c .caller)

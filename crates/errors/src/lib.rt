@@ -45,63 +45,7 @@ pub struct Seen {
     pub message_free: bool,
 }
 
-// ── What a call names ──
-
-fn within(low: u32, high: u32, n: u32) -> bool
-    ensures { λ r. ⌜ r ≡ sizes.within low high n ⌝ }
-{
-    (low <= n) & (n <= high)
-}
-
-fn names_task(call: Call) -> bool
-    ensures { λ r. ⌜ r ≡ calls.names-task call ⌝ }
-{
-    let n = call.number;
-    (n == 1) | (n == 19) | (n == 20) | (n == 21) | (n == 22) | (n == 23)
-}
-
-fn names_queue(call: Call) -> bool
-    ensures { λ r. ⌜ r ≡ calls.names-queue call ⌝ }
-{
-    within(2, 11, call.number as u32)
-}
-
-fn names_mailbox(call: Call) -> bool
-    ensures { λ r. ⌜ r ≡ calls.names-mailbox call ⌝ }
-{
-    within(12, 18, call.number as u32)
-}
-
-fn names_message(call: Call) -> bool
-    ensures { λ r. ⌜ r ≡ calls.names-message call ⌝ }
-{
-    call.number == 14
-}
-
-// The numbers that a call names, 0 where it names none of that kind.
-pub fn task_named(call: Call) -> u8
-    ensures { λ r. ⌜ r ≡ calls.task-named call ⌝ }
-{
-    if names_task(call) { call.object } else { 0 }
-}
-
-pub fn queue_named(call: Call) -> u8
-    ensures { λ r. ⌜ r ≡ calls.queue-named call ⌝ }
-{
-    if names_queue(call) { call.object } else { 0 }
-}
-
-pub fn mailbox_named(call: Call) -> u8
-    ensures { λ r. ⌜ r ≡ calls.mailbox-named call ⌝ }
-{
-    if names_mailbox(call) { call.object } else { 0 }
-}
-
-pub fn message_named(call: Call) -> u32
-    ensures { λ r. ⌜ r ≡ calls.message-named call ⌝ }
-{
-    if names_message(call) { call.value } else { 0 }
-}
+// ── Which calls ──
 
 // The calls that make a task or an object, and the calls with a tmout.
 fn creates(call: Call) -> bool
@@ -124,7 +68,7 @@ fn has_tmout(call: Call) -> bool
 fn unknown(call: Call) -> bool
     ensures { λ r. ⌜ r ≡ table.unknown call ⌝ }
 {
-    !within(1, 23, call.number as u32)
+    !names::within(1, 23, call.number as u32)
 }
 
 // ── Step 1 ──
@@ -141,7 +85,7 @@ fn caller_cannot_call(call: Call, seen: Seen) -> bool
 fn called_while_locked(call: Call) -> bool
     ensures { λ r. ⌜ r ≡ table.called-while-locked call ⌝ }
 {
-    call.locked & within(1, 23, call.number as u32)
+    call.locked & names::within(1, 23, call.number as u32)
 }
 
 // The calls that only a task can make.
@@ -186,9 +130,9 @@ fn number_outside(call: Call) -> bool
     ensures { λ r. ⌜ r ≡ table.number-outside call ⌝ }
 {
     let n = call.object as u32;
-    names_task(call) & !within(1, 32, n)
-        | names_queue(call) & !within(1, 16, n)
-        | names_mailbox(call) & !within(1, 16, n)
+    names::names_task(call) & !names::within(1, 32, n)
+        | names::names_queue(call) & !names::within(1, 16, n)
+        | names::names_mailbox(call) & !names::within(1, 16, n)
 }
 
 // ── Step 4 ──
@@ -204,7 +148,8 @@ fn attribute_outside(call: Call) -> bool
     ensures { λ r. ⌜ r ≡ table.attribute-outside call ⌝ }
 {
     let attribute = call.attribute;
-    (call.number == 2) & !within(0, 1, attribute) | (call.number == 12) & !within(0, 3, attribute)
+    (call.number == 2) & !names::within(0, 1, attribute)
+        | (call.number == 12) & !names::within(0, 3, attribute)
 }
 
 fn capacity_outside(call: Call) -> bool
@@ -216,13 +161,13 @@ fn capacity_outside(call: Call) -> bool
 fn task_priority_outside(call: Call) -> bool
     ensures { λ r. ⌜ r ≡ table.task-priority-outside call ⌝ }
 {
-    (call.number == 1) & !within(1, 16, call.value)
+    (call.number == 1) & !names::within(1, 16, call.value)
 }
 
 fn message_outside(call: Call) -> bool
     ensures { λ r. ⌜ r ≡ table.message-outside call ⌝ }
 {
-    names_message(call) & !within(1, 64, call.value)
+    names::names_message(call) & !names::within(1, 64, call.value)
 }
 
 fn messages_by_priority(attribute: u32) -> bool
@@ -234,7 +179,7 @@ fn messages_by_priority(attribute: u32) -> bool
 fn highest_outside(call: Call) -> bool
     ensures { λ r. ⌜ r ≡ table.highest-outside call ⌝ }
 {
-    (call.number == 12) & messages_by_priority(call.attribute) & !within(1, 16, call.value)
+    (call.number == 12) & messages_by_priority(call.attribute) & !names::within(1, 16, call.value)
 }
 
 fn field_outside(call: Call) -> bool
@@ -254,9 +199,9 @@ fn field_outside(call: Call) -> bool
 fn exists(call: Call, seen: Seen) -> bool
     ensures { λ r. ⌜ ((v : View) → Shows v seen → r ≡ table.exists v call) ⌝ }
 {
-    names_task(call) & seen.task.defined
-        | names_queue(call) & seen.queue.defined
-        | names_mailbox(call) & seen.mailbox.defined
+    names::names_task(call) & seen.task.defined
+        | names::names_queue(call) & seen.queue.defined
+        | names::names_mailbox(call) & seen.mailbox.defined
 }
 
 fn missing(call: Call, seen: Seen) -> bool
@@ -272,7 +217,7 @@ fn message_priority_outside(call: Call, seen: Seen) -> bool
 {
     let by_priority = messages_by_priority(seen.mailbox.attribute as u32);
     let highest = seen.mailbox.highest as u32;
-    names_message(call) & by_priority & !within(1, highest, call.attribute)
+    names::names_message(call) & by_priority & !names::within(1, highest, call.attribute)
 }
 
 // 1, 2, 12: already exists. 14: message already queued. 19: task not waiting. 21: task not suspended. 23: task waiting.
@@ -281,7 +226,7 @@ fn wrong_state(call: Call, seen: Seen) -> bool
 {
     let n = call.number;
     creates(call) & exists(call, seen)
-        | names_message(call) & !seen.message_free
+        | names::names_message(call) & !seen.message_free
         | (n == 19) & seen.task.able
         | (n == 21) & !seen.task.suspended
         | (n == 23) & !seen.task.able
@@ -317,9 +262,9 @@ fn would_wait(call: Call, seen: Seen) -> bool
     let n = call.number as u32;
     let count = seen.queue.count;
     let room = count < seen.queue.capacity;
-    within(4, 6, n) & seen.queue.no_receiver & !room
-        | within(8, 10, n) & (count == 0) & seen.queue.no_sender
-        | within(15, 17, n) & seen.mailbox.no_message
+    names::within(4, 6, n) & seen.queue.no_receiver & !room
+        | names::within(8, 10, n) & (count == 0) & seen.queue.no_sender
+        | names::within(15, 17, n) & seen.mailbox.no_message
 }
 
 fn poll_would_wait(call: Call, seen: Seen) -> bool

@@ -181,17 +181,17 @@ pub fn see(state: State, call: Call) -> Seen
 {
     let caller = call.caller;
     let calling = state.tasks[cell_of(caller, TASKS as u8)];
-    let task = errors::task_named(call);
+    let task = names::task_named(call);
     let named = state.tasks[cell_of(task, TASKS as u8)];
-    let q = errors::queue_named(call);
+    let q = names::queue_named(call);
     let queue = state.queues[cell_of(q, OBJECTS)];
-    let b = errors::mailbox_named(call);
+    let b = names::mailbox_named(call);
     let mailbox = state.mailboxes[cell_of(b, OBJECTS)];
     let caller_seen = see_task(caller, calling);
     let task_seen = see_task(task, named);
     let queue_seen = see_queue(q, queue, &state.waiting.link);
     let mailbox_seen = see_mailbox(b, mailbox, &state.messages.link);
-    let message_free = see_message(errors::message_named(call), &state.messages.link);
+    let message_free = see_message(names::message_named(call), &state.messages.link);
     Seen {
         caller: caller_seen,
         task: task_seen,

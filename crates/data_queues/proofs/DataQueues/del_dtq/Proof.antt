@@ -1,6 +1,6 @@
 -- `del_dtq` ends all waits, then makes the queue undefined.
 use Rattle.model.specs.WellFormed.{senders-of}
-use Rattle.data_queues.proofs.Laws.{queue-fits, on-senders, on-receivers, senders-chain}
+use Rattle.queue_bodies.proofs.Laws.{queue-fits, on-senders, on-receivers, senders-chain}
 use Rattle.data_queues.proofs.Calls.{deletes-at, deletes-queue}
 use borrow.Author.Needs.{needs}
 use Rattle.data_queues.proofs.DataQueues.del_dtq.Statement.{statement}

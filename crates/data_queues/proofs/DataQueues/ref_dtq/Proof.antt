@@ -1,7 +1,7 @@
 -- `ref_dtq` reads the first numbers of two chains and the count.
 use native.Mathlib.Omega.{arith}
 use Rattle.waits.proofs.Laws.{has-chain}
-use Rattle.data_queues.proofs.Laws.{queue-range, queue-fits, queue-offset, on-senders, on-receivers}
+use Rattle.queue_bodies.proofs.Laws.{queue-range, queue-fits, queue-offset, on-senders, on-receivers}
 use Rattle.data_queues.proofs.Calls.{refers-at, refers-to-queue}
 use borrow.Author.Needs.{needs}
 use Rattle.data_queues.proofs.DataQueues.ref_dtq.Statement.{statement}
