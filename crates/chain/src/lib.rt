@@ -23,6 +23,7 @@ pub const EVERY_KEY: u8 = 255;
 
 // A table of chains, with a key for each number: a task's priority, or the priority kept with a message. A caller lends `link`
 // to the functions below and looks at none of its cells.
+#[repr(C)]
 pub struct Chains {
     pub link: [u8; CELLS],
     pub key: [u8; KEY_CELLS],

@@ -10,6 +10,7 @@ pub const PLACES: usize = 16;
 
 // The number 16 below is PLACES as a byte, the type of places and counts.
 
+#[repr(C)]
 pub struct Ring {
     pub words: [u32; PLACES],
     pub head: u8,

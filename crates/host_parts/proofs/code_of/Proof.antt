@@ -1,0 +1,69 @@
+use Rattle.host_parts.proofs.code_of.Statement.{statement}
+use Rattle.host_parts.proofs.code_of.Tie as tie
+use Rattle.host_parts.proofs.code_of.Reads as reads
+use Rattle.host_parts.proofs.code_of.Lts as lts
+
+-- src/lib.rt:98:1
+returns : tie.Need-returns
+returns c = ?
+
+-- src/lib.rt:98:1
+returns-2 : tie.Need-returns-2
+returns-2 c = ?
+
+-- src/lib.rt:98:1
+returns-3 : tie.Need-returns-3
+returns-3 c = ?
+
+-- src/lib.rt:98:1
+returns-4 : tie.Need-returns-4
+returns-4 c = ?
+
+-- src/lib.rt:98:1
+returns-5 : tie.Need-returns-5
+returns-5 c = ?
+
+-- src/lib.rt:98:1
+returns-6 : tie.Need-returns-6
+returns-6 c = ?
+
+-- src/lib.rt:98:1
+returns-7 : tie.Need-returns-7
+returns-7 c = ?
+
+-- src/lib.rt:98:1
+returns-8 : tie.Need-returns-8
+returns-8 c = ?
+
+-- src/lib.rt:98:1
+returns-9 : tie.Need-returns-9
+returns-9 c = ?
+
+-- src/lib.rt:98:1
+returns-10 : tie.Need-returns-10
+returns-10 c = ?
+
+-- src/lib.rt:98:1
+returns-11 : tie.Need-returns-11
+returns-11 c = ?
+
+-- src/lib.rt:98:1
+returns-12 : tie.Need-returns-12
+returns-12 c = ?
+
+pub code-of-spec : {M : Type 1} → statement M
+code-of-spec =
+    tie.close
+    (tie.spec
+    returns
+    returns-2
+    returns-3
+    returns-4
+    returns-5
+    returns-6
+    returns-7
+    returns-8
+    returns-9
+    returns-10
+    returns-11
+    returns-12)

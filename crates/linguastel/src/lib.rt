@@ -1,0 +1,66 @@
+// The functions that hosts call, in C or Rust: thin entries over the record that the host lends. `rt staticlib linguastel` makes the library.
+// A pointer that is null or not aligned can't be told apart here: the header and the wrapper test it before they call.
+ghost use mathlib.Core.Path.{_≡_};
+ghost use Rattle.lists.specs.Tests.{Whether};
+ghost use Rattle.model.specs.Rows.{empty-state};
+ghost use Rattle.host_record.specs.Record.{HostSound, meaning};
+ghost use Rattle.host_record.specs.Step.{tick-call};
+ghost use Rattle.linguastel.specs.Called.{Called};
+ghost use Rattle.linguastel.specs.Layout.{record-size, record-align};
+use host_parts::HostAnswer;
+use host_parts::HostCall;
+use host_record::HostRecord;
+
+// The bytes of the record, and what its address has to be a multiple of.
+#[no_mangle]
+pub extern "C" fn linguastel_record_size() -> usize
+    ensures { λ r. ⌜ r ≡ record-size ⌝ }
+{
+    2232
+}
+
+#[no_mangle]
+pub extern "C" fn linguastel_record_align() -> usize
+    ensures { λ r. ⌜ r ≡ record-align ⌝ }
+{
+    4
+}
+
+// Makes the record empty, whatever it held: nothing is defined, the counter is 0.
+#[no_mangle]
+pub extern "C" fn linguastel_empty(record: &mut HostRecord)
+    ensures { λ _. ⌜ HostSound (now (record .exit)) × (meaning (now (record .exit)) ≡ empty-state 0) ⌝ }
+{
+    *record = HostRecord::empty();
+}
+
+// Whether the record is sound, whatever it holds.
+#[no_mangle]
+pub extern "C" fn linguastel_sound(record: &HostRecord) -> bool
+    ensures { λ r. ⌜ Whether (HostSound (now (record .entry))) r ⌝ }
+{
+    let lent = *record;
+    lent.sound()
+}
+
+// One call, or with number 0 the tick, on whatever record is lent.
+#[no_mangle]
+pub extern "C" fn linguastel_call(record: &mut HostRecord, call: HostCall) -> HostAnswer
+    ensures { λ r. ⌜ Called (now (record .entry)) call (now (record .exit)) r ⌝ }
+{
+    let lent = *record;
+    let stepped = lent.step(call);
+    *record = stepped.record;
+    stepped.answer
+}
+
+// One tick.
+#[no_mangle]
+pub extern "C" fn linguastel_tick(record: &mut HostRecord) -> HostAnswer
+    ensures { λ r. ⌜ Called (now (record .entry)) tick-call (now (record .exit)) r ⌝ }
+{
+    let lent = *record;
+    let stepped = lent.tick();
+    *record = stepped.record;
+    stepped.answer
+}
