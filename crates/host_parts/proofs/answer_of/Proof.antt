@@ -1,29 +1,31 @@
+-- `answer_of` gives the numbers of the outcome, case by case.
 use borrow.Author.Needs.{needs}
+use mathlib.Core.Path.{refl}
+use mir.Syntax.{w32}
+use mir.Val.{SFits}
+use mir.Facts.{toZ-ofZ}
+use Rattle.host_parts.specs.Calls.{answer-of}
 use Rattle.host_parts.proofs.answer_of.Statement.{statement}
 use Rattle.host_parts.proofs.answer_of.Tie as tie
-use Rattle.host_parts.proofs.answer_of.Reads as reads
-use Rattle.host_parts.proofs.answer_of.Lts as lts
-use Rattle.host_parts.proofs.number_of.Reads as number-of-reads
 
--- src/lib.rt:500:27
 enum-known-outcome : tie.Need-enum-known-outcome
 enum-known-outcome c = search needs
 
--- src/lib.rt:502:19
 number-of-requires : tie.Need-number-of-requires
 number-of-requires c κs = search needs
 
--- src/lib.rt:508:24
 enum-known-outcome-2 : tie.Need-enum-known-outcome-2
 enum-known-outcome-2 c = search needs
 
--- src/lib.rt:495:1
 returns : tie.Need-returns
-returns c = ?
+unfolding answer-of
+returns c =
+    let fits : SFits w32 (c .number-of .result) = search needs in
+    rw (toZ-ofZ fits, c .number-of .ensures, c .before .before .outcome .given .1) refl
 
--- src/lib.rt:495:1
 returns-2 : tie.Need-returns-2
-returns-2 c = ?
+unfolding answer-of
+returns-2 c = rw (c .before .outcome2 .given .1) refl
 
 pub answer-of-spec : {M : Type 1} → statement M
 answer-of-spec =

@@ -1,20 +1,20 @@
+-- `byte` keeps a number below 255.
 use borrow.Author.Needs.{needs}
+use borrow.Author.Tests.{lt-ltb, le-ltb}
+use Rattle.host_parts.specs.Calls.{byte}
 use Rattle.host_parts.proofs.byte.Statement.{statement}
 use Rattle.host_parts.proofs.byte.Tie as tie
-use Rattle.host_parts.proofs.byte.Reads as reads
-use Rattle.host_parts.proofs.byte.Lts as lts
 
--- src/lib.rt:454:16
 cast-result : tie.Need-cast-result
 cast-result c = search needs
 
--- src/lib.rt:454:9
 returns : tie.Need-returns
-returns c = ?
+unfolding byte
+returns c = simp (lt-ltb _ _ (c .if1 .taken))
 
--- src/lib.rt:450:1
 returns-2 : tie.Need-returns-2
-returns-2 c = ?
+unfolding byte
+returns-2 c = simp (le-ltb _ _ (c .if1 .left))
 
 pub byte-spec : {M : Type 1} → statement M
 byte-spec = tie.close (tie.spec cast-result returns returns-2)

@@ -1,62 +1,57 @@
+-- `cells_of_queues` makes the cells that hold the data queues: its loop fills the array with them.
+use mathlib.Core.Path.{_≡_}
+use Prim.Native.Nat.{_-_}
+use native.Mathlib.Omega.{arith}
+use lib.ListN.{length}
+use borrow.Author.Needs.{needs}
+use Rattle.host_parts.specs.Objects.{queue-cells}
+use Rattle.host_parts.proofs.Filling.{Filled, filled-first, filled-more, filled-all}
 use Rattle.host_parts.proofs.cells_of_queues.Statement.{statement}
 use Rattle.host_parts.proofs.cells_of_queues.Tie as tie
-use Rattle.host_parts.proofs.cells_of_queues.Reads as reads
-use Rattle.host_parts.proofs.cells_of_queues.Lts as lts
-use Rattle.host_parts.proofs.queue_cells.Reads as queue-cells-reads
 
 abbrev Inv-loop : tie.InvT-loop
-Inv-loop queues cells₀ q₀ cells q = ?
+Inv-loop queues cells₀ q₀ cells q = Filled queue-cells 17 queues q cells
 
 abbrev μ-loop : tie.MeasureT-loop
-μ-loop queues cells₀ q₀ cells q = ?
+μ-loop queues cells₀ q₀ cells q = 17 - q
 
--- src/lib.rt:383:29
 array-copy-out-queue-cells : tie.Need-array-copy-out-queue-cells Inv-loop μ-loop
-array-copy-out-queue-cells c = ?
+array-copy-out-queue-cells c = omega arith
 
--- src/lib.rt:383:9
 queue-cells-requires : tie.Need-queue-cells-requires Inv-loop μ-loop
-queue-cells-requires c κs = ?
+queue-cells-requires c κs = tt
 
--- src/lib.rt:386:5
 loop-holds : tie.Need-loop-holds Inv-loop μ-loop
-loop-holds c = ?
+loop-holds c =
+    let size : length (c .before .before .args .t1) ≡ 17 = search needs in
+    filled-first _ size (c .queue-cells .ensures)
 
--- src/lib.rt:387:32
 mul-queue-cells : tie.Need-mul-queue-cells Inv-loop μ-loop
-mul-queue-cells c = ?
+mul-queue-cells c = let h = c .loop-test .taken in omega arith
 
--- src/lib.rt:387:32
 array-copy-out-queue-cells-2 : tie.Need-array-copy-out-queue-cells-2 Inv-loop μ-loop
-array-copy-out-queue-cells-2 c = ?
+array-copy-out-queue-cells-2 c = let h = c .loop-test .taken in omega arith
 
--- src/lib.rt:387:20
 queue-cells-requires-2 : tie.Need-queue-cells-requires-2 Inv-loop μ-loop
-queue-cells-requires-2 c κs = ?
+queue-cells-requires-2 c κs = tt
 
--- src/lib.rt:387:9
 mul-cells : tie.Need-mul-cells Inv-loop μ-loop
-mul-cells c = ?
+mul-cells c = let h = c .before .before .loop-test .taken in omega arith
 
--- src/lib.rt:387:9
 array-set-from-cells : tie.Need-array-set-from-cells Inv-loop μ-loop
-array-set-from-cells c = ?
+array-set-from-cells c = let h = c .before .before .loop-test .taken in omega arith
 
--- src/lib.rt:388:9
 add-q : tie.Need-add-q Inv-loop μ-loop
-add-q c = ?
+add-q c = let h = c .before .before .loop-test .taken in omega arith
 
--- src/lib.rt:386:5
 loop-less : tie.Need-loop-less Inv-loop μ-loop
-loop-less c = ?
+loop-less c = let h = c .before .before .loop-test .taken in omega arith
 
--- src/lib.rt:386:5
 loop-again : tie.Need-loop-again Inv-loop μ-loop
-loop-again c = ?
+loop-again c = filled-more _ (c .before .before .before .loop .inv) (c .before .before .loop-test .taken) (c .queue-cells2 .ensures)
 
--- src/lib.rt:380:1
 returns : tie.Need-returns Inv-loop μ-loop
-returns c = ?
+returns c = filled-all (c .before .loop .inv) (c .loop-test .left)
 
 pub cells-of-queues-spec : {M : Type 1} → statement M
 cells-of-queues-spec =

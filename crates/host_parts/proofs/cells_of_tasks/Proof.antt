@@ -1,62 +1,57 @@
+-- `cells_of_tasks` makes the cells that hold the tasks: its loop fills the array with them.
+use mathlib.Core.Path.{_≡_}
+use Prim.Native.Nat.{_-_}
+use native.Mathlib.Omega.{arith}
+use lib.ListN.{length}
+use borrow.Author.Needs.{needs}
+use Rattle.host_parts.specs.Tasks.{cells-of}
+use Rattle.host_parts.proofs.Filling.{Filled, filled-first, filled-more, filled-all}
 use Rattle.host_parts.proofs.cells_of_tasks.Statement.{statement}
 use Rattle.host_parts.proofs.cells_of_tasks.Tie as tie
-use Rattle.host_parts.proofs.cells_of_tasks.Reads as reads
-use Rattle.host_parts.proofs.cells_of_tasks.Lts as lts
-use Rattle.host_parts.proofs.cells_of.Reads as cells-of-reads
 
 abbrev Inv-loop : tie.InvT-loop
-Inv-loop tasks cells₀ t₀ cells t = ?
+Inv-loop tasks cells₀ t₀ cells t = Filled cells-of 33 tasks t cells
 
 abbrev μ-loop : tie.MeasureT-loop
-μ-loop tasks cells₀ t₀ cells t = ?
+μ-loop tasks cells₀ t₀ cells t = 33 - t
 
--- src/lib.rt:274:26
 array-copy-out-cells-of : tie.Need-array-copy-out-cells-of Inv-loop μ-loop
-array-copy-out-cells-of c = ?
+array-copy-out-cells-of c = omega arith
 
--- src/lib.rt:274:9
 cells-of-requires : tie.Need-cells-of-requires Inv-loop μ-loop
-cells-of-requires c κs = ?
+cells-of-requires c κs = tt
 
--- src/lib.rt:277:5
 loop-holds : tie.Need-loop-holds Inv-loop μ-loop
-loop-holds c = ?
+loop-holds c =
+    let size : length (c .before .before .args .t1) ≡ 33 = search needs in
+    filled-first _ size (c .cells-of .ensures)
 
--- src/lib.rt:278:29
 mul-cells-of : tie.Need-mul-cells-of Inv-loop μ-loop
-mul-cells-of c = ?
+mul-cells-of c = let h = c .loop-test .taken in omega arith
 
--- src/lib.rt:278:29
 array-copy-out-cells-of-2 : tie.Need-array-copy-out-cells-of-2 Inv-loop μ-loop
-array-copy-out-cells-of-2 c = ?
+array-copy-out-cells-of-2 c = let h = c .loop-test .taken in omega arith
 
--- src/lib.rt:278:20
 cells-of-requires-2 : tie.Need-cells-of-requires-2 Inv-loop μ-loop
-cells-of-requires-2 c κs = ?
+cells-of-requires-2 c κs = tt
 
--- src/lib.rt:278:9
 mul-cells : tie.Need-mul-cells Inv-loop μ-loop
-mul-cells c = ?
+mul-cells c = let h = c .before .before .loop-test .taken in omega arith
 
--- src/lib.rt:278:9
 array-set-from-cells : tie.Need-array-set-from-cells Inv-loop μ-loop
-array-set-from-cells c = ?
+array-set-from-cells c = let h = c .before .before .loop-test .taken in omega arith
 
--- src/lib.rt:279:9
 add-t : tie.Need-add-t Inv-loop μ-loop
-add-t c = ?
+add-t c = let h = c .before .before .loop-test .taken in omega arith
 
--- src/lib.rt:277:5
 loop-less : tie.Need-loop-less Inv-loop μ-loop
-loop-less c = ?
+loop-less c = let h = c .before .before .loop-test .taken in omega arith
 
--- src/lib.rt:277:5
 loop-again : tie.Need-loop-again Inv-loop μ-loop
-loop-again c = ?
+loop-again c = filled-more _ (c .before .before .before .loop .inv) (c .before .before .loop-test .taken) (c .cells-of2 .ensures)
 
--- src/lib.rt:271:1
 returns : tie.Need-returns Inv-loop μ-loop
-returns c = ?
+returns c = filled-all (c .before .loop .inv) (c .loop-test .left)
 
 pub cells-of-tasks-spec : {M : Type 1} → statement M
 cells-of-tasks-spec =

@@ -1,62 +1,57 @@
+-- `mailboxes_of` makes the mailboxes that the cells hold: its loop fills the array with them.
+use mathlib.Core.Path.{_≡_}
+use Prim.Native.Nat.{_-_}
+use native.Mathlib.Omega.{arith}
+use lib.ListN.{length}
+use borrow.Author.Needs.{needs}
+use Rattle.host_parts.specs.Objects.{mailbox-of}
+use Rattle.host_parts.proofs.Filling.{Filled, filled-first, filled-more, filled-all}
 use Rattle.host_parts.proofs.mailboxes_of.Statement.{statement}
 use Rattle.host_parts.proofs.mailboxes_of.Tie as tie
-use Rattle.host_parts.proofs.mailboxes_of.Reads as reads
-use Rattle.host_parts.proofs.mailboxes_of.Lts as lts
-use Rattle.host_parts.proofs.mailbox_of.Reads as mailbox-of-reads
 
 abbrev Inv-loop : tie.InvT-loop
-Inv-loop cells mailboxes₀ b₀ mailboxes b = ?
+Inv-loop cells mailboxes₀ b₀ mailboxes b = Filled mailbox-of 17 cells b mailboxes
 
 abbrev μ-loop : tie.MeasureT-loop
-μ-loop cells mailboxes₀ b₀ mailboxes b = ?
+μ-loop cells mailboxes₀ b₀ mailboxes b = 17 - b
 
--- src/lib.rt:396:28
 array-copy-out-mailbox-of : tie.Need-array-copy-out-mailbox-of Inv-loop μ-loop
-array-copy-out-mailbox-of c = ?
+array-copy-out-mailbox-of c = omega arith
 
--- src/lib.rt:396:9
 mailbox-of-requires : tie.Need-mailbox-of-requires Inv-loop μ-loop
-mailbox-of-requires c κs = ?
+mailbox-of-requires c κs = tt
 
--- src/lib.rt:399:5
 loop-holds : tie.Need-loop-holds Inv-loop μ-loop
-loop-holds c = ?
+loop-holds c =
+    let size : length (c .before .before .args .t1) ≡ 17 = search needs in
+    filled-first _ size (c .mailbox-of .ensures)
 
--- src/lib.rt:400:35
 mul-mailbox-of : tie.Need-mul-mailbox-of Inv-loop μ-loop
-mul-mailbox-of c = ?
+mul-mailbox-of c = let h = c .loop-test .taken in omega arith
 
--- src/lib.rt:400:35
 array-copy-out-mailbox-of-2 : tie.Need-array-copy-out-mailbox-of-2 Inv-loop μ-loop
-array-copy-out-mailbox-of-2 c = ?
+array-copy-out-mailbox-of-2 c = let h = c .loop-test .taken in omega arith
 
--- src/lib.rt:400:24
 mailbox-of-requires-2 : tie.Need-mailbox-of-requires-2 Inv-loop μ-loop
-mailbox-of-requires-2 c κs = ?
+mailbox-of-requires-2 c κs = tt
 
--- src/lib.rt:400:9
 mul-mailboxes : tie.Need-mul-mailboxes Inv-loop μ-loop
-mul-mailboxes c = ?
+mul-mailboxes c = let h = c .before .before .loop-test .taken in omega arith
 
--- src/lib.rt:400:9
 array-set-from-mailboxes : tie.Need-array-set-from-mailboxes Inv-loop μ-loop
-array-set-from-mailboxes c = ?
+array-set-from-mailboxes c = let h = c .before .before .loop-test .taken in omega arith
 
--- src/lib.rt:401:9
 add-b : tie.Need-add-b Inv-loop μ-loop
-add-b c = ?
+add-b c = let h = c .before .before .loop-test .taken in omega arith
 
--- src/lib.rt:399:5
 loop-less : tie.Need-loop-less Inv-loop μ-loop
-loop-less c = ?
+loop-less c = let h = c .before .before .loop-test .taken in omega arith
 
--- src/lib.rt:399:5
 loop-again : tie.Need-loop-again Inv-loop μ-loop
-loop-again c = ?
+loop-again c = filled-more _ (c .before .before .before .loop .inv) (c .before .before .loop-test .taken) (c .mailbox-of2 .ensures)
 
--- src/lib.rt:393:1
 returns : tie.Need-returns Inv-loop μ-loop
-returns c = ?
+returns c = filled-all (c .before .loop .inv) (c .loop-test .left)
 
 pub mailboxes-of-spec : {M : Type 1} → statement M
 mailboxes-of-spec =

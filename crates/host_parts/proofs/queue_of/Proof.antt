@@ -1,15 +1,16 @@
+-- `queue_of` reads the numbers as the definition does: by the test of the first.
+use borrow.Author.Tests.{lt-ltb, le-ltb}
+use Rattle.host_parts.specs.Objects.{queue-of}
 use Rattle.host_parts.proofs.queue_of.Statement.{statement}
 use Rattle.host_parts.proofs.queue_of.Tie as tie
-use Rattle.host_parts.proofs.queue_of.Reads as reads
-use Rattle.host_parts.proofs.queue_of.Lts as lts
 
--- src/lib.rt:315:9
 returns : tie.Need-returns
-returns c = ?
+unfolding queue-of
+returns c = simp (lt-ltb _ _ (c .if1 .taken))
 
--- src/lib.rt:309:1
 returns-2 : tie.Need-returns-2
-returns-2 c = ?
+unfolding queue-of
+returns-2 c = simp (le-ltb _ _ (c .if1 .left))
 
 pub queue-of-spec : {M : Type 1} → statement M
 queue-of-spec = tie.close (tie.spec returns returns-2)

@@ -1,62 +1,57 @@
+-- `queues_of` makes the data queues that the cells hold: its loop fills the array with them.
+use mathlib.Core.Path.{_≡_}
+use Prim.Native.Nat.{_-_}
+use native.Mathlib.Omega.{arith}
+use lib.ListN.{length}
+use borrow.Author.Needs.{needs}
+use Rattle.host_parts.specs.Objects.{queue-of}
+use Rattle.host_parts.proofs.Filling.{Filled, filled-first, filled-more, filled-all}
 use Rattle.host_parts.proofs.queues_of.Statement.{statement}
 use Rattle.host_parts.proofs.queues_of.Tie as tie
-use Rattle.host_parts.proofs.queues_of.Reads as reads
-use Rattle.host_parts.proofs.queues_of.Lts as lts
-use Rattle.host_parts.proofs.queue_of.Reads as queue-of-reads
 
 abbrev Inv-loop : tie.InvT-loop
-Inv-loop cells queues₀ q₀ queues q = ?
+Inv-loop cells queues₀ q₀ queues q = Filled queue-of 17 cells q queues
 
 abbrev μ-loop : tie.MeasureT-loop
-μ-loop cells queues₀ q₀ queues q = ?
+μ-loop cells queues₀ q₀ queues q = 17 - q
 
--- src/lib.rt:370:26
 array-copy-out-queue-of : tie.Need-array-copy-out-queue-of Inv-loop μ-loop
-array-copy-out-queue-of c = ?
+array-copy-out-queue-of c = omega arith
 
--- src/lib.rt:370:9
 queue-of-requires : tie.Need-queue-of-requires Inv-loop μ-loop
-queue-of-requires c κs = ?
+queue-of-requires c κs = tt
 
--- src/lib.rt:373:5
 loop-holds : tie.Need-loop-holds Inv-loop μ-loop
-loop-holds c = ?
+loop-holds c =
+    let size : length (c .before .before .args .t1) ≡ 17 = search needs in
+    filled-first _ size (c .queue-of .ensures)
 
--- src/lib.rt:374:30
 mul-queue-of : tie.Need-mul-queue-of Inv-loop μ-loop
-mul-queue-of c = ?
+mul-queue-of c = let h = c .loop-test .taken in omega arith
 
--- src/lib.rt:374:30
 array-copy-out-queue-of-2 : tie.Need-array-copy-out-queue-of-2 Inv-loop μ-loop
-array-copy-out-queue-of-2 c = ?
+array-copy-out-queue-of-2 c = let h = c .loop-test .taken in omega arith
 
--- src/lib.rt:374:21
 queue-of-requires-2 : tie.Need-queue-of-requires-2 Inv-loop μ-loop
-queue-of-requires-2 c κs = ?
+queue-of-requires-2 c κs = tt
 
--- src/lib.rt:374:9
 mul-queues : tie.Need-mul-queues Inv-loop μ-loop
-mul-queues c = ?
+mul-queues c = let h = c .before .before .loop-test .taken in omega arith
 
--- src/lib.rt:374:9
 array-set-from-queues : tie.Need-array-set-from-queues Inv-loop μ-loop
-array-set-from-queues c = ?
+array-set-from-queues c = let h = c .before .before .loop-test .taken in omega arith
 
--- src/lib.rt:375:9
 add-q : tie.Need-add-q Inv-loop μ-loop
-add-q c = ?
+add-q c = let h = c .before .before .loop-test .taken in omega arith
 
--- src/lib.rt:373:5
 loop-less : tie.Need-loop-less Inv-loop μ-loop
-loop-less c = ?
+loop-less c = let h = c .before .before .loop-test .taken in omega arith
 
--- src/lib.rt:373:5
 loop-again : tie.Need-loop-again Inv-loop μ-loop
-loop-again c = ?
+loop-again c = filled-more _ (c .before .before .before .loop .inv) (c .before .before .loop-test .taken) (c .queue-of2 .ensures)
 
--- src/lib.rt:367:1
 returns : tie.Need-returns Inv-loop μ-loop
-returns c = ?
+returns c = filled-all (c .before .loop .inv) (c .loop-test .left)
 
 pub queues-of-spec : {M : Type 1} → statement M
 queues-of-spec =

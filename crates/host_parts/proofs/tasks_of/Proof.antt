@@ -1,62 +1,57 @@
+-- `tasks_of` makes the tasks that the cells hold: its loop fills the array with them.
+use mathlib.Core.Path.{_≡_}
+use Prim.Native.Nat.{_-_}
+use native.Mathlib.Omega.{arith}
+use lib.ListN.{length}
+use borrow.Author.Needs.{needs}
+use Rattle.host_parts.specs.Tasks.{task-of}
+use Rattle.host_parts.proofs.Filling.{Filled, filled-first, filled-more, filled-all}
 use Rattle.host_parts.proofs.tasks_of.Statement.{statement}
 use Rattle.host_parts.proofs.tasks_of.Tie as tie
-use Rattle.host_parts.proofs.tasks_of.Reads as reads
-use Rattle.host_parts.proofs.tasks_of.Lts as lts
-use Rattle.host_parts.proofs.task_of.Reads as task-of-reads
 
 abbrev Inv-loop : tie.InvT-loop
-Inv-loop cells tasks₀ t₀ tasks t = ?
+Inv-loop cells tasks₀ t₀ tasks t = Filled task-of 33 cells t tasks
 
 abbrev μ-loop : tie.MeasureT-loop
-μ-loop cells tasks₀ t₀ tasks t = ?
+μ-loop cells tasks₀ t₀ tasks t = 33 - t
 
--- src/lib.rt:261:25
 array-copy-out-task-of : tie.Need-array-copy-out-task-of Inv-loop μ-loop
-array-copy-out-task-of c = ?
+array-copy-out-task-of c = omega arith
 
--- src/lib.rt:261:9
 task-of-requires : tie.Need-task-of-requires Inv-loop μ-loop
-task-of-requires c κs = ?
+task-of-requires c κs = tt
 
--- src/lib.rt:264:5
 loop-holds : tie.Need-loop-holds Inv-loop μ-loop
-loop-holds c = ?
+loop-holds c =
+    let size : length (c .before .before .args .t1) ≡ 33 = search needs in
+    filled-first _ size (c .task-of .ensures)
 
--- src/lib.rt:265:28
 mul-task-of : tie.Need-mul-task-of Inv-loop μ-loop
-mul-task-of c = ?
+mul-task-of c = let h = c .loop-test .taken in omega arith
 
--- src/lib.rt:265:28
 array-copy-out-task-of-2 : tie.Need-array-copy-out-task-of-2 Inv-loop μ-loop
-array-copy-out-task-of-2 c = ?
+array-copy-out-task-of-2 c = let h = c .loop-test .taken in omega arith
 
--- src/lib.rt:265:20
 task-of-requires-2 : tie.Need-task-of-requires-2 Inv-loop μ-loop
-task-of-requires-2 c κs = ?
+task-of-requires-2 c κs = tt
 
--- src/lib.rt:265:9
 mul-tasks : tie.Need-mul-tasks Inv-loop μ-loop
-mul-tasks c = ?
+mul-tasks c = let h = c .before .before .loop-test .taken in omega arith
 
--- src/lib.rt:265:9
 array-set-from-tasks : tie.Need-array-set-from-tasks Inv-loop μ-loop
-array-set-from-tasks c = ?
+array-set-from-tasks c = let h = c .before .before .loop-test .taken in omega arith
 
--- src/lib.rt:266:9
 add-t : tie.Need-add-t Inv-loop μ-loop
-add-t c = ?
+add-t c = let h = c .before .before .loop-test .taken in omega arith
 
--- src/lib.rt:264:5
 loop-less : tie.Need-loop-less Inv-loop μ-loop
-loop-less c = ?
+loop-less c = let h = c .before .before .loop-test .taken in omega arith
 
--- src/lib.rt:264:5
 loop-again : tie.Need-loop-again Inv-loop μ-loop
-loop-again c = ?
+loop-again c = filled-more _ (c .before .before .before .loop .inv) (c .before .before .loop-test .taken) (c .task-of2 .ensures)
 
--- src/lib.rt:258:1
 returns : tie.Need-returns Inv-loop μ-loop
-returns c = ?
+returns c = filled-all (c .before .loop .inv) (c .loop-test .left)
 
 pub tasks-of-spec : {M : Type 1} → statement M
 tasks-of-spec =

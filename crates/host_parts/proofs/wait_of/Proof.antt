@@ -1,33 +1,36 @@
+-- `wait_of` tests the numbers in the order in which the definition does.
 use borrow.Author.Needs.{needs}
+use borrow.Author.Tests.{eq-eqb, ne-eqb}
+use Rattle.host_parts.specs.Tasks.{wait-of}
 use Rattle.host_parts.proofs.wait_of.Statement.{statement}
 use Rattle.host_parts.proofs.wait_of.Tie as tie
-use Rattle.host_parts.proofs.wait_of.Reads as reads
-use Rattle.host_parts.proofs.wait_of.Lts as lts
-use Rattle.host_parts.proofs.end_of.Reads as end-of-reads
 
--- src/lib.rt:71:9
 returns : tie.Need-returns
-returns c = ?
+unfolding wait-of
+returns c = simp (eq-eqb _ _ (c .if1 .taken))
 
--- src/lib.rt:74:9
 returns-2 : tie.Need-returns-2
-returns-2 c = ?
+unfolding wait-of
+returns-2 c = simp (ne-eqb _ _ (c .before .if1 .left), c .if2 .taken)
 
--- src/lib.rt:80:9
 end-of-requires : tie.Need-end-of-requires
 end-of-requires c κs = search needs
 
--- src/lib.rt:82:9
 returns-3 : tie.Need-returns-3
-returns-3 c = ?
+unfolding wait-of
+returns-3 c = simp (ne-eqb _ _ (c .before .before .before .if1 .left), c .before .before .if2 .left, c .before .end-of .ensures, eq-eqb _ _ (c .if3 .taken))
 
--- src/lib.rt:89:9
 returns-4 : tie.Need-returns-4
-returns-4 c = ?
+unfolding wait-of
+returns-4 c =
+    let start = c .before .before in
+    simp (ne-eqb _ _ (start .before .before .if1 .left), start .before .if2 .left, start .end-of .ensures, ne-eqb _ _ (c .before .if3 .left), eq-eqb _ _ (c .if4 .taken))
 
--- src/lib.rt:64:1
 returns-5 : tie.Need-returns-5
-returns-5 c = ?
+unfolding wait-of
+returns-5 c =
+    let start = c .before .before in
+    simp (ne-eqb _ _ (start .before .before .if1 .left), start .before .if2 .left, start .end-of .ensures, ne-eqb _ _ (c .before .if3 .left), ne-eqb _ _ (c .if4 .left))
 
 pub wait-of-spec : {M : Type 1} → statement M
 wait-of-spec = tie.close (tie.spec returns returns-2 end-of-requires returns-3 returns-4 returns-5)
