@@ -1,6 +1,6 @@
 -- What a step of a host's record has to be: as that of a `State` (crate record, Step.antt), in the host's numbers.
 use mathlib.Core.Path.{_≡_}
-use mathlib.Core.Bool.{Bool, true, false, not}
+use mathlib.Core.Bool.{Bool, true, false, not, cond}
 use Prim.Native.Nat.{ℕ, _<_, _≤_}
 use lib.Dec.{T, eqb}
 use lib.IntN.{pos}
@@ -24,22 +24,25 @@ use Rattle.host_record.specs.Record.{HostSound, meaning}
 abbrev pub tick-call : HostCall
 tick-call = record { number = 0; caller = 0; locked = 0; disabled = 0; object = 0; value = 0; tmout = pos 0; attribute = 0 }
 
--- Whether a step with this number and outcome keeps the record as it is: fetch changes nothing, and any other call with a code but E_OK is refused.
+-- Whether a step leaves every byte of the record as it is: fetch, number 23, changes nothing, and any other call that answers a code but E_OK is refused.
 abbrev pub refuses : Outcome → Bool
 refuses (Finished code) = not (is-ok code)
 refuses (Waits place) = false
 
+abbrev pub keeps : ℕ → Outcome → Bool
+keeps number outcome = cond (eqb number 23) true (refuses outcome)
+
 -- The call is refused: this code with no words, and the very record, its unused bytes too.
 abbrev pub host-refusal : Code → HostRecord → HostStep
-host-refusal code r = record { record = r; answer = answer-of (finished code 0 0 0) }
+host-refusal code r = record { state = r; answer = answer-of (finished code 0 0 0) }
 
 -- Answer and state are the definition's, and the new record is sound. A refused call leaves every byte as it was. What else the new record holds is free (crate record, Meaning.antt), and so are
 -- the numbers that a task's wait doesn't use.
 pub record HostFollows (r : HostRecord) (c : HostCall) (x : HostStep) : Type 0 where
   pub answer-is : x .answer ≡ answer-of (step (meaning r) (call-of c) .answer)
-  pub meaning-is : meaning (x .record) ≡ step (meaning r) (call-of c) .state
-  pub sound : HostSound (x .record)
-  pub unchanged : T (not (eqb (c .number) 0)) → T (refused true (view-of (meaning r .rows) (call-of c)) (call-of c)) → x .record ≡ r
+  pub meaning-is : meaning (x .state) ≡ step (meaning r) (call-of c) .state
+  pub sound : HostSound (x .state)
+  pub unchanged : T (not (eqb (c .number) 0)) → T (refused true (view-of (meaning r .rows) (call-of c)) (call-of c)) → x .state ≡ r
 
 -- A step of any record, whatever its bytes, with any call.
 pub record HostStepped (r : HostRecord) (c : HostCall) (x : HostStep) : Type 0 where

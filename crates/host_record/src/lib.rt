@@ -30,7 +30,7 @@ pub struct HostRecord {
 
 // What a step hands back.
 pub struct HostStep {
-    pub record: HostRecord,
+    pub state: HostRecord,
     pub answer: HostAnswer,
 }
 
@@ -54,16 +54,16 @@ fn record_of(state: State) -> HostRecord
 }
 
 // The state that the record holds, whatever its bytes are.
-fn state_of(record: HostRecord) -> State
-    ensures { λ r. ⌜ r ≡ state-of record ⌝ }
+fn state_of(lent: HostRecord) -> State
+    ensures { λ r. ⌜ r ≡ state-of lent ⌝ }
 {
-    let tasks = record.tasks;
-    let queues = record.queues;
-    let mailboxes = record.mailboxes;
-    let waiting = record.waiting;
-    let messages = record.messages;
+    let tasks = lent.tasks;
+    let queues = lent.queues;
+    let mailboxes = lent.mailboxes;
+    let waiting = lent.waiting;
+    let messages = lent.messages;
     State {
-        counter: record.counter,
+        counter: lent.counter,
         tasks: host_parts::tasks_of(tasks),
         waiting,
         queues: host_parts::queues_of(queues),
@@ -113,13 +113,15 @@ impl HostRecord {
         let answer = host_parts::answer_of(given);
         if keeps(number, outcome) {
             return HostStep {
-                record: self,
+                state: self,
                 answer,
             };
         }
         let left = stepped.state;
-        let record = record_of(left);
-        HostStep { record, answer }
+        HostStep {
+            state: record_of(left),
+            answer,
+        }
     }
 
     // One tick.

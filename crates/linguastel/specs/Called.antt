@@ -6,4 +6,4 @@ use Rattle.host_record.specs.Step.{HostStepped}
 
 -- The call found the lent record as `before`, left it as `after` and gave the answer: those are the record and the answer of a step.
 abbrev pub Called : HostRecord → HostCall → HostRecord → HostAnswer → Type 0
-Called before call after answer = HostStepped before call (record { record = after; answer = answer })
+Called before call after answer = HostStepped before call (record { state = after; answer = answer })

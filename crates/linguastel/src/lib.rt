@@ -28,39 +28,39 @@ pub extern "C" fn linguastel_record_align() -> usize
 
 // Makes the record empty, whatever it held: nothing is defined, the counter is 0.
 #[no_mangle]
-pub extern "C" fn linguastel_empty(record: &mut HostRecord)
-    ensures { λ _. ⌜ HostSound (now (record .exit)) × (meaning (now (record .exit)) ≡ empty-state 0) ⌝ }
+pub extern "C" fn linguastel_empty(lent: &mut HostRecord)
+    ensures { λ _. ⌜ HostSound (now (lent .exit)) × (meaning (now (lent .exit)) ≡ empty-state 0) ⌝ }
 {
-    *record = HostRecord::empty();
+    *lent = HostRecord::empty();
 }
 
 // Whether the record is sound, whatever it holds.
 #[no_mangle]
-pub extern "C" fn linguastel_sound(record: &HostRecord) -> bool
-    ensures { λ r. ⌜ Whether (HostSound (now (record .entry))) r ⌝ }
+pub extern "C" fn linguastel_sound(lent: &HostRecord) -> bool
+    ensures { λ r. ⌜ Whether (HostSound (now (lent .entry))) r ⌝ }
 {
-    let lent = *record;
-    lent.sound()
+    let state = *lent;
+    state.sound()
 }
 
 // One call, or with number 0 the tick, on whatever record is lent.
 #[no_mangle]
-pub extern "C" fn linguastel_call(record: &mut HostRecord, call: HostCall) -> HostAnswer
-    ensures { λ r. ⌜ Called (now (record .entry)) call (now (record .exit)) r ⌝ }
+pub extern "C" fn linguastel_call(lent: &mut HostRecord, call: HostCall) -> HostAnswer
+    ensures { λ r. ⌜ Called (now (lent .entry)) call (now (lent .exit)) r ⌝ }
 {
-    let lent = *record;
-    let stepped = lent.step(call);
-    *record = stepped.record;
+    let state = *lent;
+    let stepped = state.step(call);
+    *lent = stepped.state;
     stepped.answer
 }
 
 // One tick.
 #[no_mangle]
-pub extern "C" fn linguastel_tick(record: &mut HostRecord) -> HostAnswer
-    ensures { λ r. ⌜ Called (now (record .entry)) tick-call (now (record .exit)) r ⌝ }
+pub extern "C" fn linguastel_tick(lent: &mut HostRecord) -> HostAnswer
+    ensures { λ r. ⌜ Called (now (lent .entry)) tick-call (now (lent .exit)) r ⌝ }
 {
-    let lent = *record;
-    let stepped = lent.tick();
-    *record = stepped.record;
+    let state = *lent;
+    let stepped = state.tick();
+    *lent = stepped.state;
     stepped.answer
 }

@@ -1,0 +1,2 @@
+pub mod Faithful
+pub mod Steps
