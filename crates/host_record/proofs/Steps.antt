@@ -48,6 +48,7 @@ fetch-keeps m c e = go (refused true (view-of (m .rows) c) c) refl
   where
     some : T (not (eqb (c .number) 0))
     some = no-tick (c .number) (omega arith)
+
     go : (b : Bool) → refused true (view-of (m .rows) c) c ≡ b → step m c .state ≡ m
     go true t = ap (λ r. r .state) (refusals m c some .by-row (rw t tt))
     go false t =
@@ -86,9 +87,10 @@ module _ {s : State} {c : Call} {y : Step} (h : Stepped s c y) where
   -- Where a step of a sound record keeps it, the state that is handed back is the same.
   same-meaning : Sound s → keeps (c .number) (y .answer .outcome) ≡ true → abs (y .state) ≡ abs s
   same-meaning S e = elim (ℕ-discrete (c .number) 23) [
-    yes is-fetch ↦ follows h S .meaning-is ∙ fetch-keeps (abs s) c is-fetch |
-    no other ↦ let refusal = refusal-in (y .answer .outcome) (rw (ne-eqb (c .number) 23 other) at e) in
-        ap (λ (x : Step). abs (x .state)) (handled s c y h .no-other-refusal S other (refusal .code) (refusal .outcome-is) (refusal .not-ok) .0) ]
+    | yes is-fetch ↦ follows h S .meaning-is ∙ fetch-keeps (abs s) c is-fetch
+    | no other ↦ let refusal = refusal-in (y .answer .outcome) (rw (ne-eqb (c .number) 23 other) at e) in
+        ap (λ (x : Step). abs (x .state)) (handled s c y h .no-other-refusal S other (refusal .code) (refusal .outcome-is) (refusal .not-ok) .0)
+  ]
 
   -- A step that hands back an error keeps the record.
   keeps-error : (code : Code) → T (is-error code) → y .answer .outcome ≡ Finished code → keeps (c .number) (y .answer .outcome) ≡ true

@@ -39,8 +39,7 @@ pub extern "C" fn linguastel_empty(lent: &mut HostRecord)
 pub extern "C" fn linguastel_sound(lent: &HostRecord) -> bool
     ensures { λ r. ⌜ Whether (HostSound (now (lent .entry))) r ⌝ }
 {
-    let state = *lent;
-    state.sound()
+    (*lent).sound()
 }
 
 // One call, or with number 0 the tick, on whatever record is lent.
@@ -48,8 +47,7 @@ pub extern "C" fn linguastel_sound(lent: &HostRecord) -> bool
 pub extern "C" fn linguastel_call(lent: &mut HostRecord, call: HostCall) -> HostAnswer
     ensures { λ r. ⌜ Called (now (lent .entry)) call (now (lent .exit)) r ⌝ }
 {
-    let state = *lent;
-    let stepped = state.step(call);
+    let stepped = (*lent).step(call);
     *lent = stepped.state;
     stepped.answer
 }
@@ -59,8 +57,7 @@ pub extern "C" fn linguastel_call(lent: &mut HostRecord, call: HostCall) -> Host
 pub extern "C" fn linguastel_tick(lent: &mut HostRecord) -> HostAnswer
     ensures { λ r. ⌜ Called (now (lent .entry)) tick-call (now (lent .exit)) r ⌝ }
 {
-    let state = *lent;
-    let stepped = state.tick();
+    let stepped = (*lent).tick();
     *lent = stepped.state;
     stepped.answer
 }
