@@ -13,7 +13,7 @@ use Rattle.record.specs.Meaning.{abs}
 use Rattle.record.specs.Sound.{Sound}
 use Rattle.record.specs.Equal.{SameState}
 use Rattle.record.proofs.Equal.{equal-states}
-use Rattle.demands.specs.Runs.{RunOfTurns, no-turn, one-turn}
+use Rattle.demands.specs.Runs.{Run, RunOfTurns, no-turn, one-turn}
 use Rattle.demands.specs.Isolated.{Undisturbed, Isolated, IsolatedFromEmpty, IsolatedMany}
 use Rattle.demands.proofs.Runs.{follows, run-follows}
 
@@ -21,7 +21,7 @@ use Rattle.demands.proofs.Runs.{follows, run-follows}
 same-state : (s u : State) → Sound s → Sound u → abs s ≡ abs u → SameState s u
 same-state s u S U e = equal-states s u S U .1 e
 
-undisturbed : (s : State) → Sound s → (xs ys : List Call) → Separate step (abs s) xs ys → Undisturbed s xs ys
+undisturbed : (s : State) → Sound s → (xs ys : List Call) → Separate step (abs s) xs ys → Undisturbed Run SameState Sound s xs ys
 undisturbed s S xs ys h = record {
   answers-alone = λ {turns} {zs} m p q o.
       rw (run-follows S p .answers-are, run-follows S q .answers-are, run-follows S o .answers-are) (h .answers-alone turns zs m);

@@ -17,18 +17,19 @@ use Rattle.record.specs.Equal.{SameState}
 use Rattle.demands.specs.Runs.{Run, RunOfTurns}
 
 -- The claim about two lists of calls from one record. `Merge turns xs ys zs`: zs holds every call of both lists, each once and in its list's order; the turns say whose call stands at each position.
-pub record Undisturbed (s : State) (xs ys : List Call) : Type 0 where
+-- It is one claim however the record is handed on from call to call: `Run` says what a run is, `Same` when two end states are equal, `Sound` when one is sound.
+pub record Undisturbed {S C A : Type 0} (Run : S → List C → S → List A → Type 0) (Same : S → S → Type 0) (Sound : S → Type 0) (s : S) (xs ys : List C) : Type 0 where
   -- In every merge, every call answers as when its list runs alone from s: the merge's answers are the two lists' answers, merged by the same turns.
-  pub answers-alone : {turns : List Bool} {zs : List Call} → Merge turns xs ys zs
-      → {x-last y-last z-last : State} {x-answers y-answers z-answers : List Answer}
+  pub answers-alone : {turns : List Bool} {zs : List C} → Merge turns xs ys zs
+      → {x-last y-last z-last : S} {x-answers y-answers z-answers : List A}
       → Run s xs x-last x-answers → Run s ys y-last y-answers → Run s zs z-last z-answers
       → Merge turns x-answers y-answers z-answers
   -- All merges end in equal states.
-  pub one-end : {turns turns′ : List Bool} {zs zs′ : List Call} → Merge turns xs ys zs → Merge turns′ xs ys zs′
-      → {last last′ : State} {answers answers′ : List Answer}
-      → Run s zs last answers → Run s zs′ last′ answers′ → SameState last last′
+  pub one-end : {turns turns′ : List Bool} {zs zs′ : List C} → Merge turns xs ys zs → Merge turns′ xs ys zs′
+      → {last last′ : S} {answers answers′ : List A}
+      → Run s zs last answers → Run s zs′ last′ answers′ → Same last last′
   -- The end states are sound.
-  pub end-sound : {turns : List Bool} {zs : List Call} → Merge turns xs ys zs → {last : State} {answers : List Answer} → Run s zs last answers → Sound last
+  pub end-sound : {turns : List Bool} {zs : List C} → Merge turns xs ys zs → {last : S} {answers : List A} → Run s zs last answers → Sound last
 
 -- From any sound state, two carriers that have no number in common, each one's waiting tasks and queued messages only in its own objects; each with any list of calls, of known number or not,
 -- refused ones too, but no tick, whose valid numbers are its own.
@@ -37,7 +38,7 @@ Isolated =
     (s : State) → Sound s
     → (a b : Carrier) → Disjoint a b → Placed (Own a) (abs s .rows) → Placed (Own b) (abs s .rows)
     → (xs ys : List Call) → Each (CallOf (Own a)) xs → Each (CallOf (Own b)) ys
-    → Undisturbed s xs ys
+    → Undisturbed Run SameState Sound s xs ys
 
 -- The premises can be met: the empty state, which `State::empty` hands out, asks nothing more of the carriers.
 abbrev pub IsolatedFromEmpty : Type 0
@@ -45,7 +46,7 @@ IsolatedFromEmpty =
     (s : State) → Sound s → (counter : ℕ) → abs s ≡ empty-state counter
     → (a b : Carrier) → Disjoint a b
     → (xs ys : List Call) → Each (CallOf (Own a)) xs → Each (CallOf (Own b)) ys
-    → Undisturbed s xs ys
+    → Undisturbed Run SameState Sound s xs ys
 
 -- ── Any number of carriers ──
 

@@ -1,2 +1,3 @@
 pub mod Faithful
 pub mod Steps
+pub mod Sound

@@ -102,15 +102,15 @@ module _ {s : State} {c : Call} {y : Step} (h : Stepped s c y) where
 
 -- ── The host's numbers ──
 
-unknown-number : (c : HostCall) → call-limit < c .number → call-limit < call-of c .number
+pub unknown-number : (c : HostCall) → call-limit < c .number → call-limit < call-of c .number
 unfolding call-of
 unknown-number c above = byte-unknown {limit = call-limit} (omega arith) (c .number) above
 
-known-number : (c : HostCall) → c .number ≤ call-limit → call-of c .number ≡ c .number
+pub known-number : (c : HostCall) → c .number ≤ call-limit → call-of c .number ≡ c .number
 unfolding call-of
 known-number c within = byte-known {limit = call-limit} (omega arith) (c .number) within
 
-known : (c : HostCall) → c .number ≤ call-limit → call-of c .number ≤ call-limit
+pub known : (c : HostCall) → c .number ≤ call-limit → call-of c .number ≤ call-limit
 known c within = subst (λ n. n ≤ call-limit) (sym (known-number c within)) within
 
 -- ── The record ──

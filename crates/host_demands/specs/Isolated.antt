@@ -1,0 +1,52 @@
+-- Demand 3 through the thin entry, and for hosts: the claim of crate demands, for runs in which the record stays where it is.
+use mathlib.Core.Path.{_≡_}
+use mathlib.Core.List.{List}
+use Prim.Native.Nat.{ℕ}
+use Rattle.lists.specs.Lists.{Each}
+use Rattle.model.specs.Rows.{empty-state}
+use Rattle.model.specs.Isolation.{Placed, CallOf, Carrier, Own, Disjoint}
+use Rattle.model.specs.declared.Call.{Call}
+use Rattle.record.specs.declared.State.{State}
+use Rattle.record.specs.Meaning.{abs}
+use Rattle.record.specs.Sound.{Sound}
+use Rattle.record.specs.Equal.{SameState}
+use Rattle.demands.specs.Isolated.{Undisturbed}
+use Rattle.host_parts.specs.Calls.{call-of}
+use Rattle.host_parts.specs.declared.HostCall.{HostCall}
+use Rattle.host_record.specs.declared.HostRecord.{HostRecord}
+use Rattle.host_record.specs.Record.{state-of, HostSound, meaning}
+use Rattle.host_demands.specs.Runs.{EntryRun, HostRun}
+
+-- From any sound record, two carriers that have no number in common, each one's waiting tasks and queued messages only in its own objects; each with any list of calls, of known number or not,
+-- refused ones too, but no tick, whose valid numbers are its own.
+abbrev pub IsolatedThroughEntry : Type 0
+IsolatedThroughEntry =
+    (s : State) → Sound s
+    → (a b : Carrier) → Disjoint a b → Placed (Own a) (abs s .rows) → Placed (Own b) (abs s .rows)
+    → (xs ys : List Call) → Each (CallOf (Own a)) xs → Each (CallOf (Own b)) ys
+    → Undisturbed EntryRun SameState Sound s xs ys
+
+-- ── In the host's numbers ──
+
+-- Two host's records are equal states when the states that they hold are.
+abbrev pub HostSame : HostRecord → HostRecord → Type 0
+HostSame r u = SameState (state-of r) (state-of u)
+
+-- A call in the carrier's list, as the kernel reads it.
+abbrev pub HostCallOf : Carrier → HostCall → Type 0
+HostCallOf a c = CallOf (Own a) (call-of c)
+
+abbrev pub IsolatedForHosts : Type 0
+IsolatedForHosts =
+    (r : HostRecord) → HostSound r
+    → (a b : Carrier) → Disjoint a b → Placed (Own a) (meaning r .rows) → Placed (Own b) (meaning r .rows)
+    → (xs ys : List HostCall) → Each (HostCallOf a) xs → Each (HostCallOf b) ys
+    → Undisturbed HostRun HostSame HostSound r xs ys
+
+-- From the record that `linguastel_empty` leaves, nothing more is asked of it.
+abbrev pub IsolatedForHostsFromEmpty : Type 0
+IsolatedForHostsFromEmpty =
+    (r : HostRecord) → HostSound r → (counter : ℕ) → meaning r ≡ empty-state counter
+    → (a b : Carrier) → Disjoint a b
+    → (xs ys : List HostCall) → Each (HostCallOf a) xs → Each (HostCallOf b) ys
+    → Undisturbed HostRun HostSame HostSound r xs ys

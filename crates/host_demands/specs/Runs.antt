@@ -1,0 +1,24 @@
+-- Document 01, "What demand 3 compares": runs in which the record stays where it is. The first call gets the starting state, each later one the state that the call before it left.
+use mathlib.Core.List.{List, [], _∷_}
+use Rattle.model.specs.declared.Answer.{Answer}
+use Rattle.model.specs.declared.Call.{Call}
+use Rattle.record.specs.declared.State.{State}
+use Rattle.entry.specs.Entered.{Entered}
+use Rattle.host_parts.specs.declared.HostAnswer.{HostAnswer}
+use Rattle.host_parts.specs.declared.HostCall.{HostCall}
+use Rattle.host_record.specs.declared.HostRecord.{HostRecord}
+use Rattle.linguastel.specs.Called.{Called}
+
+-- `Called before call after answer` is the contract of one call: it found the lent record as `before` and left it as `after`.
+pub data LentRun {S C A : Type 0} (Called : S → C → S → A → Type 0) : S → List C → S → List A → Type 0 where
+  no-call : {s : S} → LentRun Called s [] s []
+  one-call : {s after last : S} {c : C} {answer : A} {calls : List C} {answers : List A}
+      → Called s c after answer → LentRun Called after calls last answers → LentRun Called s (c ∷ calls) last (answer ∷ answers)
+
+-- Through the thin entry.
+abbrev pub EntryRun : State → List Call → State → List Answer → Type 0
+EntryRun = LentRun Entered
+
+-- Through the function that hosts call, a call of number 0 being the tick.
+abbrev pub HostRun : HostRecord → List HostCall → HostRecord → List HostAnswer → Type 0
+HostRun = LentRun Called

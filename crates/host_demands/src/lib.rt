@@ -1,0 +1,1 @@
+// Demand 3 through the thin entry, and through the functions that hosts call: statements in specs/, proofs in proofs/. No code.
