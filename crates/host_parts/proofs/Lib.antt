@@ -1,3 +1,4 @@
 pub mod Filling
 pub mod Faithful
 pub mod Bytes
+pub mod Numbers

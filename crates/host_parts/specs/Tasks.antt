@@ -1,7 +1,10 @@
 -- A task's record in numbers. Every number reads as something; one that says nothing reads as what no sound record has, so the test of the record finds it.
 use mathlib.Core.Bool.{Bool, true, false, cond, _||_}
-use Prim.Native.Nat.{ℕ}
-use lib.Dec.{eqb, ltb}
+use mathlib.Core.List.{[], _∷_}
+use mathlib.Core.Logic.{_≢_}
+use Prim.Native.Nat.{ℕ, _≤_}
+use lib.Dec.{T, eqb, ltb}
+use Rattle.lists.specs.Lists.{one-of}
 use Rattle.model.specs.Waits.{wait-number, wait-object, held-word, wait-end}
 use Rattle.model.specs.declared.Code.{Code}
 use Rattle.model.specs.declared.Code.the-variants.{Ok, Sys, Par, Id, Ctx, Iluse, Obj, Noexs, Qovr, Rlwai, Tmout, Dlt}
@@ -49,6 +52,13 @@ code-of n =
 -- The flags are a sum: 1 defined, 2 suspended. A number above 3 reads as suspended and undefined, which no task is in a sound record.
 unfoldable pub task-of : HostTask → Task
 task-of x = record { wait = wait-of x; word = x .word; code = code-of (x .code); defined = eqb (x .flags) 1 || eqb (x .flags) 3; suspended = ltb 1 (x .flags) }
+
+-- Every number of a task's record says something, as is shown of a sound record (crate host_record, Numbers.antt). A wait's numbers are used only where there is one, the code only of a task that is defined.
+pub record TaskNumbers (x : HostTask) : Type 0 where
+  pub flags : x .flags ≤ 3
+  pub wait : x .wait ≤ 3
+  pub timed : x .wait ≢ 0 → x .timed ≤ 1
+  pub code : T (task-of x .defined) → T (one-of (x .code) (0 ∷ 49 ∷ 50 ∷ 51 ∷ []))
 
 -- ── Written ──
 
