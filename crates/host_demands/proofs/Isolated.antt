@@ -1,5 +1,4 @@
 -- Demand 3 for a record that stays where it is: its runs are runs of states, of which the claim is proved (crate demands).
-use mathlib.Core.Path.{_≡_}
 use mathlib.Core.Bool.{Bool}
 use mathlib.Core.List.{List, map}
 use Rattle.lists.specs.Lists.{Each, none, both}

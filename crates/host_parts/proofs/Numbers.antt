@@ -10,7 +10,6 @@ use lib.Dec.{T, eqb, ltb}
 use borrow.Author.Tests.{lt-ltb, ne-eqb}
 use Rattle.lists.specs.Lists.{one-of}
 use Rattle.model.specs.WellFormed.{ObjectInRange, ends-a-wait, TaskWellFormed, QueueWellFormed, MailboxWellFormed}
-use Rattle.model.specs.declared.Code.{Code}
 use Rattle.model.specs.declared.Code.the-variants.{Ok, Sys, Par, Id, Ctx, Iluse, Obj, Noexs, Qovr, Rlwai, Tmout, Dlt}
 use Rattle.parts.specs.Tasks.{task-row}
 use Rattle.parts.specs.Queues.{queue-row}

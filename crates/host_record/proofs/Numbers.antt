@@ -1,22 +1,20 @@
 -- The numbers of a sound host's record say something: part by part, since each part of the state that it holds is sound.
 use mathlib.Core.Path.{_≡_, subst}
-use mathlib.Core.List.{List}
 use lib.Dec.{T}
 use lib.ListN.{getD, List·getD-map}
-use Prim.Native.Nat.{ℕ, _≤_}
-use Rattle.model.specs.Rows.{task, queue, mailbox, valid}
+use Prim.Native.Nat.{ℕ}
 use Rattle.model.specs.WellFormed.{senders-of, receivers-of, waiters-of, TaskWellFormed, QueueWellFormed, MailboxWellFormed}
 use Rattle.parts.specs.Chains.{tasks-in, messages-in}
 use Rattle.parts.specs.Tasks.{task-row}
 use Rattle.parts.specs.Queues.{queue-row}
 use Rattle.parts.specs.Mailboxes.{mailbox-row}
 use Rattle.record.specs.Meaning.{task-at, queue-at, mailbox-at}
-use Rattle.record.proofs.Parts.{TaskAt, sound-parts}
-use Rattle.host_parts.specs.Tasks.{wait-of, code-of, task-of, TaskNumbers}
+use Rattle.record.proofs.Parts.{sound-parts}
+use Rattle.host_parts.specs.Tasks.{wait-of, code-of, task-of}
 use Rattle.host_parts.specs.Objects.{queue-of, mailbox-of}
 use Rattle.host_parts.proofs.Numbers.{task-numbers, queue-numbers, mailbox-numbers}
 use Rattle.host_record.specs.declared.HostRecord.{HostRecord}
-use Rattle.host_record.specs.Record.{state-of, HostSound}
+use Rattle.host_record.specs.Record.{state-of}
 use Rattle.host_record.specs.Numbers.{no-task-cells, no-queue-cells, no-mailbox-cells, SoundInRange}
 
 task-read : (r : HostRecord) (t : ℕ) → task-at (state-of r) t ≡ task-of (getD (r .tasks) t no-task-cells)

@@ -1,7 +1,7 @@
 -- A step of a sound host's record is a step of the state that it holds: by the call's number, unknown or known.
 use mathlib.Core.Path.{_≡_, refl, ap, subst}
 use mathlib.Core.Bool.{not}
-use Prim.Native.Nat.{ℕ, _<_, _≤_}
+use Prim.Native.Nat.{_<_, _≤_}
 use native.Mathlib.Omega.{arith}
 use native.Mathlib.Decide.{decLt}
 use lib.Dec.{T, eqb}
@@ -10,7 +10,6 @@ use Rattle.model.specs.Codes.{finished}
 use Rattle.model.specs.Step.{step}
 use Rattle.model.specs.declared.Answer.{Answer}
 use Rattle.model.specs.declared.Code.the-variants.{Par as E-PAR}
-use Rattle.record.specs.declared.Step.{Step}
 use Rattle.record.specs.Step.{Stepped}
 use Rattle.host_parts.specs.Calls.{call-of, answer-of}
 use Rattle.host_parts.specs.declared.HostCall.{HostCall}
