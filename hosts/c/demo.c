@@ -232,7 +232,8 @@ int main(void)
     printf("In five lines: a task sent 42, a handler received %" PRIu32 ".\n\n", five_lines(&host.record).a);
 
     start(&host);
-    printf("Carrier A's file has %d lines. Each but the first stands for %d of the line before it: %" PRIu64 " elements.\n", A_LINES, A_COPIES, elements_of_a());
+    printf("Carrier A's file has %d lines. Each but the first stands for %d of the line before it: ", A_LINES, A_COPIES);
+    printf("%" PRIu64 " elements.\n", elements_of_a());
     printf("Carrier B's file has %d words. Each carrier has a data queue of %d words, an import task and a reader.\n\n", STEPS, CAPACITY);
     printf("tick  A's queue                B's queue                received: A, B\n");
     play(&host);

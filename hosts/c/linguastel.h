@@ -137,8 +137,8 @@ typedef struct {
 enum { LINGUASTEL_SENDERS = 32, LINGUASTEL_RECEIVERS = 48, LINGUASTEL_WAITERS = 64, LINGUASTEL_QUEUED_MESSAGES = 64 };
 
 /*
- * Entry n of each array belongs to number n, entry 0 to nobody. A host may read the record at any time between calls. What it writes there is taken as it
- * is if the record is then sound; else every call of a known number answers E_SYS.
+ * Entry n of each array belongs to number n, entry 0 to nobody. A host may read the record between calls. What it writes there is taken as it is if the
+ * record is then sound; else every call of a known number answers E_SYS.
  */
 typedef struct {
     uint32_t counter;
@@ -265,9 +265,9 @@ LinguastelAnswer linguastel_tick(LinguastelRecord *record);
 /* ---- The same with a test of the pointer ---- */
 
 /*
- * A pointer that is null or not aligned leads to no record. Document 01 has no row for it. It is answered like a state that isn't sound: E_SYS with zero
- * words, after step 0's E_PAR for a call number above 23. No memory is touched. (C lets a compiler assume that a pointer is aligned; gcc and clang hand
- * it over as it is, so that the test finds the fault.)
+ * A pointer that is null or not aligned leads to no record. Document 01 has no row for it. It is answered like a state that isn't sound: E_SYS with
+ * zero words, after step 0's E_PAR for a call number above 23. No memory is touched. (C lets a compiler assume that a pointer is aligned; gcc and clang
+ * hand it over as it is, so that the test finds the fault.)
  */
 static inline bool linguastel_is_record(const LinguastelRecord *record)
 {
@@ -342,8 +342,8 @@ static inline const char *linguastel_code_name(int32_t code)
 /* ---- The calls by name ---- */
 
 /*
- * Numbers of tasks, data queues and mailboxes have 32 bits, so that 300 or -1 reaches the kernel as it is and is refused; a byte would have made 44 or 255
- * of it. Fields that the call's row in the table of calls doesn't name are 0.
+ * Numbers of tasks, data queues and mailboxes have 32 bits, so that 300 or -1 reaches the kernel as it is and is refused; a byte would have made 44 or
+ * 255 of it. Fields that the call's row in the table of calls doesn't name are 0.
  */
 static inline LinguastelAnswer linguastel_make_call(
     LinguastelRecord *record, LinguastelContext context, uint32_t number, uint32_t object, uint32_t value, uint32_t attribute, int32_t tmout)
