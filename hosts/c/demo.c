@@ -234,7 +234,7 @@ int main(void)
     start(&host);
     printf("Carrier A's file has %d lines. Each but the first stands for %d of the line before it: ", A_LINES, A_COPIES);
     printf("%" PRIu64 " elements.\n", elements_of_a());
-    printf("Carrier B's file has %d words. Each carrier has a data queue of %d words, an import task and a reader.\n\n", STEPS, CAPACITY);
+    printf("Carrier B's file has %d words. Each carrier has a data queue of %d words, an import task and a reader. # is a stored word.\n\n", STEPS, CAPACITY);
     printf("tick  A's queue                B's queue                received: A, B\n");
     play(&host);
 
