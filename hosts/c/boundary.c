@@ -361,6 +361,7 @@ static const Fault faults[] = {
     { AT(tasks[3].code), 6, "stored code 6" },
     { AT(tasks[3].code), 5, "stored code 5" },
     { AT(queues[1].defined), 2, "data queue defined 2" },
+    { AT(queues[7].defined), 2, "undefined data queue defined 2" },
     { AT(queues[2].defined), 0, "words in an undefined data queue" },
     { AT(queues[1].attribute), 2, "data queue attribute 2" },
     { AT(queues[1].ring.head), 16, "ring head 16" },
@@ -582,7 +583,8 @@ static void play_line(LinguastelRecord *record, Way *way, const Line *line, cons
 
 static const char *folder;
 
-static void play_runs(const char *name, Way *way)
+/* The file has this many runs beside run 0. */
+static void play_runs(const char *name, unsigned runs, Way *way)
 {
     char path[512], text[256];
     snprintf(path, sizeof path, "%s/%s", folder, name);
@@ -605,30 +607,30 @@ static void play_runs(const char *name, Way *way)
         }
         play_line(run == 0 ? &start : &record, way, &line, text);
     }
-    check(run > 0, path);
+    check(run == runs, path);
     fclose(file);
 }
 
-static void play_all_ways(const char *name)
+static void play_all_ways(const char *name, unsigned runs)
 {
-    play_runs(name, call_by_number);
-    play_runs(name, call_by_name);
-    play_runs(name, call_by_i_form);
+    play_runs(name, runs, call_by_number);
+    play_runs(name, runs, call_by_name);
+    play_runs(name, runs, call_by_i_form);
 }
 
 static void test_sixteen_runs(void)
 {
-    play_all_ways("sixteen_runs.txt");
+    play_all_ways("sixteen_runs.txt", 16);
 }
 
 static void test_each_call(void)
 {
-    play_all_ways("each_call.txt");
+    play_all_ways("each_call.txt", 5);
 }
 
 static void test_error_table(void)
 {
-    play_all_ways("error_table.txt");
+    play_all_ways("error_table.txt", 11);
 }
 
 /* ---- All groups ---- */

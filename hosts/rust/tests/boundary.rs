@@ -180,9 +180,9 @@ const FAULTS: [Fault; 11] = [
     ("wait 4", |record| record.tasks[3].wait = 4),
     ("timed 2 with a wait", |record| record.tasks[1].timed = 2),
     ("stored code 6", |record| record.tasks[3].code = 6),
-    ("data queue defined 2", |record| record.queues[1].defined = 2),
+    ("data queue defined 2", |record| record.queues[7].defined = 2),
     ("ring head 16", |record| record.queues[1].ring.head = 16),
-    ("mailbox defined 77", |record| record.mailboxes[1].defined = 77),
+    ("mailbox defined 77", |record| record.mailboxes[5].defined = 77),
     ("a message priority above the highest", |record| record.mailboxes[2].highest = 8),
     ("task priority 17", |record| record.waiting.key[3] = 17),
     ("an able task in a chain", |record| record.waiting.link[SENDERS + 5] = 3),
@@ -242,10 +242,9 @@ fn view() {
 
 // ── The runs ──
 
-const NAMES: [&str; 24] = [
-    "tick", "define_task", "cre_dtq", "del_dtq", "snd_dtq", "psnd_dtq", "tsnd_dtq", "fsnd_dtq", "rcv_dtq", "prcv_dtq", "trcv_dtq", "ref_dtq", "cre_mbx", "del_mbx",
-    "snd_mbx", "rcv_mbx", "prcv_mbx", "trcv_mbx", "ref_mbx", "rel_wai", "sus_tsk", "rsm_tsk", "look", "fetch",
-];
+/// The calls in the order of their numbers.
+const NAMES: &str = "tick define_task cre_dtq del_dtq snd_dtq psnd_dtq tsnd_dtq fsnd_dtq rcv_dtq prcv_dtq trcv_dtq ref_dtq \
+    cre_mbx del_mbx snd_mbx rcv_mbx prcv_mbx trcv_mbx ref_mbx rel_wai sus_tsk rsm_tsk look fetch";
 
 fn call_by_name(record: &mut Record, call: Call) -> Answer {
     let by = Context { caller: call.caller, locked: call.locked != 0, disabled: call.disabled != 0 };
@@ -319,7 +318,7 @@ fn play_line(record: &mut Record, way: Way, fields: &[&str]) {
         "leaves" => assert_eq!(record.counter, number(5)),
         name => {
             let call = Call {
-                number: NAMES.iter().position(|known| *known == name).unwrap() as u32,
+                number: NAMES.split(' ').position(|known| known == name).unwrap() as u32,
                 caller: number(1),
                 locked: u32::from(fields[2] == "L"),
                 disabled: u32::from(fields[2] == "D"),
@@ -338,31 +337,33 @@ fn play_line(record: &mut Record, way: Way, fields: &[&str]) {
 
 type Way = fn(&mut Record, Call) -> Answer;
 
-fn play(runs: &str) {
+/// The text has this many runs beside run 0.
+fn play(text: &str, runs: &str) {
     for way in [Record::call as Way, call_by_name, call_by_i_form] {
         let mut start = Record::empty();
         let (mut run, mut record) = ("0", start);
-        for line in runs.lines().filter(|line| !line.is_empty() && !line.starts_with('#')) {
+        for line in text.lines().filter(|line| !line.is_empty() && !line.starts_with('#')) {
             let fields: Vec<&str> = line.split_whitespace().collect();
             if fields[0] != run {
                 (run, record) = (fields[0], start);
             }
             play_line(if run == "0" { &mut start } else { &mut record }, way, &fields);
         }
+        assert_eq!(run, runs);
     }
 }
 
 #[test]
 fn sixteen_runs() {
-    play(include_str!("../../runs/sixteen_runs.txt"));
+    play(include_str!("../../runs/sixteen_runs.txt"), "16");
 }
 
 #[test]
 fn each_call() {
-    play(include_str!("../../runs/each_call.txt"));
+    play(include_str!("../../runs/each_call.txt"), "5");
 }
 
 #[test]
 fn error_table() {
-    play(include_str!("../../runs/error_table.txt"));
+    play(include_str!("../../runs/error_table.txt"), "11");
 }

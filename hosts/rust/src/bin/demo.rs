@@ -180,7 +180,9 @@ fn main() {
 
     let mut host = start();
     println!("Carrier A's file has {A_LINES} lines. Each but the first stands for {A_COPIES} of the line before it: {} elements.", elements_of_a());
-    println!("Carrier B's file has {STEPS} words. Each carrier has a data queue of {CAPACITY} words, an import task and a reader. # is a stored word.\n");
+    println!(
+        "Carrier B's file has {STEPS} words. Each carrier has a data queue of {CAPACITY} words, an import task and a reader. # is a stored word.\n"
+    );
     println!("tick  A's queue                B's queue                received: A, B");
     host.play();
 
