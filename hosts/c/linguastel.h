@@ -269,7 +269,7 @@ LinguastelAnswer linguastel_tick(LinguastelRecord *record);
  * zero words, after step 0's E_PAR for a call number above 23. No memory is touched. (C lets a compiler assume that a pointer is aligned; gcc and clang
  * hand it over as it is, so that the test finds the fault.)
  */
-static inline bool linguastel_is_record(const LinguastelRecord *record)
+static inline bool linguastel_pointer_fits(const LinguastelRecord *record)
 {
     return record != NULL && (uintptr_t)record % LINGUASTEL_RECORD_ALIGN == 0;
 }
@@ -281,7 +281,7 @@ static inline LinguastelAnswer linguastel_refusal(int32_t code)
 
 static inline LinguastelAnswer linguastel_guarded_call(LinguastelRecord *record, LinguastelCall call)
 {
-    if (linguastel_is_record(record)) {
+    if (linguastel_pointer_fits(record)) {
         return linguastel_call(record, call);
     }
     return linguastel_refusal(call.number > LINGUASTEL_LAST_CALL ? LINGUASTEL_E_PAR : LINGUASTEL_E_SYS);
@@ -289,13 +289,13 @@ static inline LinguastelAnswer linguastel_guarded_call(LinguastelRecord *record,
 
 static inline LinguastelAnswer linguastel_guarded_tick(LinguastelRecord *record)
 {
-    return linguastel_is_record(record) ? linguastel_tick(record) : linguastel_refusal(LINGUASTEL_E_SYS);
+    return linguastel_pointer_fits(record) ? linguastel_tick(record) : linguastel_refusal(LINGUASTEL_E_SYS);
 }
 
 /* Whether the record is empty now. */
 static inline bool linguastel_guarded_empty(LinguastelRecord *record)
 {
-    if (!linguastel_is_record(record)) {
+    if (!linguastel_pointer_fits(record)) {
         return false;
     }
     linguastel_empty(record);
@@ -304,7 +304,7 @@ static inline bool linguastel_guarded_empty(LinguastelRecord *record)
 
 static inline bool linguastel_guarded_sound(const LinguastelRecord *record)
 {
-    return linguastel_is_record(record) && linguastel_sound(record);
+    return linguastel_pointer_fits(record) && linguastel_sound(record);
 }
 
 /* ---- Help for hosts ---- */
