@@ -1,0 +1,247 @@
+/* A host in C: the import tasks of two carriers. One carrier's file swells; the other carrier's words arrive all the same. */
+#include <inttypes.h>
+#include <stdio.h>
+
+#include "linguastel.h"
+
+/* A host uses the kernel in five lines. */
+static LinguastelAnswer five_lines(LinguastelRecord *record)
+{
+    linguastel_empty(record);
+    linguastel_idefine_task(record, 1, 5);
+    linguastel_icre_dtq(record, 1, LINGUASTEL_TA_TFIFO, 8);
+    linguastel_snd_dtq(record, linguastel_as_task(1), 1, 42);
+    return linguastel_iprcv_dtq(record, 1);
+}
+
+/* ---- The carriers ---- */
+
+enum { A_IMPORT = 1, A_READER, B_IMPORT, B_READER, OPERATOR, LAST_TASK = OPERATOR };
+
+enum { A_QUEUE = 1, B_QUEUE, LAST_QUEUE = B_QUEUE };
+
+enum { PRIORITY = 5, CAPACITY = 8, STEPS = 12 };
+
+/* Each line of carrier A's file but the first stands for so many of the line before it. */
+enum { A_LINES = 10, A_COPIES = 10 };
+
+/* The tmout of carrier A's sends. */
+enum { A_TMOUT = 3 };
+
+/* Carrier B's file; its reader empties the queue in every fourth step. */
+static const uint32_t b_words[STEPS] = { 615, 640, 705, 730, 800, 830, 915, 1000, 1045, 1130, 1215, 1300 };
+enum { B_READS_EVERY = 4 };
+
+/* What is done to carrier A's queue or import task in a step. Its reader takes two elements, then no more. */
+enum event { NOTHING, A_READS, A_IS_RELEASED, A_IS_DELETED };
+
+static const enum event plan[STEPS] = { [1] = A_READS, [2] = A_READS, [6] = A_IS_RELEASED, [8] = A_IS_DELETED };
+
+typedef struct {
+    LinguastelRecord record;
+    uint32_t element; /* of carrier A's file, to be sent next; it is its own number */
+    bool a_waits;
+    bool a_stopped;
+    uint32_t a_received;
+    uint32_t b_received[STEPS];
+    size_t b_count;
+} Host;
+
+/* Counted, not built: the import task makes an element when it can send it. */
+static uint64_t elements_of_a(void)
+{
+    uint64_t elements = 1;
+    for (int line = 1; line < A_LINES; line++) {
+        elements *= A_COPIES;
+    }
+    return elements;
+}
+
+static void start(Host *host)
+{
+    linguastel_empty(&host->record);
+    for (uint32_t task = 1; task <= LAST_TASK; task++) {
+        linguastel_idefine_task(&host->record, task, PRIORITY);
+    }
+    for (uint32_t queue = 1; queue <= LAST_QUEUE; queue++) {
+        linguastel_icre_dtq(&host->record, queue, LINGUASTEL_TA_TFIFO, CAPACITY);
+    }
+    host->element = 1;
+}
+
+/* ---- What is printed of an answer ---- */
+
+static bool is_ok(LinguastelAnswer answer)
+{
+    return answer.kind == LINGUASTEL_FINISHED && answer.code == LINGUASTEL_E_OK;
+}
+
+static void say(const char *what, LinguastelAnswer answer)
+{
+    printf("      %s: ", what);
+    if (answer.kind == LINGUASTEL_WAITS) {
+        printf("waits, place %" PRIu32 "\n", answer.place);
+    } else if (answer.a != 0) {
+        printf("%s, %" PRIu32 "\n", linguastel_code_name(answer.code), answer.a);
+    } else {
+        printf("%s\n", linguastel_code_name(answer.code));
+    }
+}
+
+/* ---- What is done in a step ---- */
+
+static void b_imports(Host *host, size_t step)
+{
+    linguastel_snd_dtq(&host->record, linguastel_as_task(B_IMPORT), B_QUEUE, b_words[step]);
+}
+
+static LinguastelAnswer b_receives(Host *host)
+{
+    return linguastel_prcv_dtq(&host->record, linguastel_as_task(B_READER), B_QUEUE);
+}
+
+/* Until the queue is empty. */
+static void b_reads(Host *host)
+{
+    LinguastelAnswer answer = b_receives(host);
+    while (is_ok(answer) && host->b_count < STEPS) {
+        host->b_received[host->b_count++] = answer.a;
+        answer = b_receives(host);
+    }
+}
+
+static void a_reads(Host *host)
+{
+    LinguastelAnswer answer = linguastel_prcv_dtq(&host->record, linguastel_as_task(A_READER), A_QUEUE);
+    say("A's reader, prcv_dtq", answer);
+    host->a_received += is_ok(answer);
+}
+
+static void happen(Host *host, enum event event)
+{
+    switch (event) {
+    case NOTHING:
+        break;
+    case A_READS:
+        a_reads(host);
+        break;
+    case A_IS_RELEASED:
+        say("handler, rel_wai of A's import task", linguastel_irel_wai(&host->record, A_IMPORT));
+        break;
+    case A_IS_DELETED:
+        say("operator, del_dtq of A's queue", linguastel_del_dtq(&host->record, linguastel_as_task(OPERATOR), A_QUEUE));
+        break;
+    }
+}
+
+/* The import task is able again and learns how its wait ended. An element whose wait ended with another code than E_OK was withdrawn. */
+static void a_wakes(Host *host)
+{
+    LinguastelAnswer ended = linguastel_fetch(&host->record, linguastel_as_task(A_IMPORT), A_IMPORT);
+    say("A's import task, fetch", ended);
+    host->element += is_ok(ended);
+    host->a_waits = false;
+}
+
+static LinguastelAnswer a_sends(Host *host)
+{
+    return linguastel_tsnd_dtq(&host->record, linguastel_as_task(A_IMPORT), A_QUEUE, host->element, A_TMOUT);
+}
+
+/* Sends element after element, until one has to wait or is refused. */
+static void a_imports(Host *host)
+{
+    if (host->a_stopped || linguastel_ilook(&host->record, A_IMPORT).a != LINGUASTEL_NO_WAIT) {
+        return;
+    }
+    if (host->a_waits) {
+        a_wakes(host);
+    }
+    LinguastelAnswer answer = a_sends(host);
+    while (is_ok(answer)) {
+        host->element++;
+        answer = a_sends(host);
+    }
+    host->a_waits = answer.kind == LINGUASTEL_WAITS;
+    host->a_stopped = !host->a_waits;
+    char what[64];
+    snprintf(what, sizeof what, "A's import task, tsnd_dtq of element %" PRIu32, host->element);
+    say(what, answer);
+}
+
+/* ---- The picture ---- */
+
+/* A queue's stored words, a # for each, and whether a sender waits. */
+static void draw_queue(LinguastelAnswer reference)
+{
+    if (reference.code == LINGUASTEL_E_NOEXS) {
+        printf("  %-23s", "deleted");
+        return;
+    }
+    char bar[CAPACITY + 1] = "";
+    for (uint32_t place = 0; place < CAPACITY; place++) {
+        bar[place] = place < reference.c ? '#' : '.';
+    }
+    printf("  %s %-14s", bar, reference.a != 0 ? "a sender waits" : "");
+}
+
+static void draw(Host *host)
+{
+    printf("%4" PRIu32, host->record.counter);
+    draw_queue(linguastel_iref_dtq(&host->record, A_QUEUE));
+    draw_queue(linguastel_iref_dtq(&host->record, B_QUEUE));
+    printf("  %2" PRIu32 ", %zu\n", host->a_received, host->b_count);
+}
+
+/* ---- The story ---- */
+
+static void tick(Host *host)
+{
+    LinguastelAnswer ticked = linguastel_guarded_tick(&host->record);
+    if (ticked.a != 0) {
+        say("tick, waits that it ended", ticked);
+    }
+}
+
+static void play(Host *host)
+{
+    for (size_t step = 0; step < STEPS; step++) {
+        b_imports(host, step);
+        if ((step + 1) % B_READS_EVERY == 0) {
+            b_reads(host);
+        }
+        happen(host, plan[step]);
+        a_imports(host);
+        draw(host);
+        tick(host);
+    }
+}
+
+static bool b_arrived_in_order(const Host *host)
+{
+    bool same = host->b_count == STEPS;
+    for (size_t i = 0; i < host->b_count; i++) {
+        same = same && host->b_received[i] == b_words[i];
+    }
+    return same;
+}
+
+int main(void)
+{
+    static Host host;
+    printf("In five lines: a task sent 42, a handler received %" PRIu32 ".\n\n", five_lines(&host.record).a);
+
+    start(&host);
+    printf("Carrier A's file has %d lines. Each but the first stands for %d of the line before it: ", A_LINES, A_COPIES);
+    printf("%" PRIu64 " elements.\n", elements_of_a());
+    printf("Carrier B's file has %d words. Each carrier has a data queue of %d words, an import task and a reader. # is a stored word.\n\n", STEPS, CAPACITY);
+    printf("tick  A's queue                B's queue                received: A, B\n");
+    play(&host);
+
+    bool in_order = b_arrived_in_order(&host);
+    bool sound = linguastel_guarded_sound(&host.record);
+    printf("\nCarrier A: %" PRIu32 " of %" PRIu64 " elements accepted, %" PRIu32 " received.\n", host.element - 1, elements_of_a(), host.a_received);
+    printf("Carrier B: %zu of %d words received, %s.\n", host.b_count, STEPS, in_order ? "in order" : "not in order");
+    printf("The record is %s.\n", sound ? "sound" : "not sound");
+    return in_order && sound ? 0 : 1;
+}

@@ -1,0 +1,559 @@
+/*
+ * Linguastel for hosts in C11: the state record, the 23 calls and the tick. Document 01 says what each of them does; its words are used here.
+ *
+ * `rt staticlib linguastel` proves the library and writes target/staticlib/liblinguastel.a, for x86-64 and the System V calling convention.
+ *
+ * The kernel's promise covers a record of any bytes and a call with any numbers. Some things no function can test, so they are the host's part:
+ *
+ *   - The pointer leads to a whole record, LINGUASTEL_RECORD_SIZE bytes that may be read and written.
+ *   - Calls on one record are made one after the other: a call has returned before the next one starts, in an interrupt handler too.
+ *   - During a call no other thread, handler or device reads or writes the record, and no other pointer is used for it.
+ *   - Each call gets the record as the call before it left it, and not an older copy.
+ *   - The context is true: who calls, and whether the CPU is locked or dispatching disabled.
+ *   - Arguments fit their 32 bits. C cuts a wider number down before the kernel sees it; gcc and clang warn of that with -Wconversion.
+ */
+#ifndef LINGUASTEL_H
+#define LINGUASTEL_H
+
+#include <stdbool.h>
+#include <stddef.h>
+#include <stdint.h>
+
+/* ---- Sizes and names ---- */
+
+/* Numbers of tasks and objects start at 1. */
+enum {
+    LINGUASTEL_TASKS = 32,
+    LINGUASTEL_QUEUES = 16,
+    LINGUASTEL_MAILBOXES = 16,
+    LINGUASTEL_MESSAGES = 64,
+    LINGUASTEL_WORDS = 16, /* the largest capacity of a data queue */
+    LINGUASTEL_LOWEST_PRIORITY = 16, /* of tasks and messages; 1 goes first */
+    LINGUASTEL_LONGEST_TMOUT = 2147483646,
+    LINGUASTEL_FOREVER = -1, /* the tmout that waits without end */
+    LINGUASTEL_RECORD_SIZE = 2232,
+    LINGUASTEL_RECORD_ALIGN = 4
+};
+
+enum {
+    LINGUASTEL_E_OK = 0,
+    LINGUASTEL_E_SYS = -5,
+    LINGUASTEL_E_PAR = -17,
+    LINGUASTEL_E_ID = -18,
+    LINGUASTEL_E_CTX = -25,
+    LINGUASTEL_E_ILUSE = -28,
+    LINGUASTEL_E_OBJ = -41,
+    LINGUASTEL_E_NOEXS = -42,
+    LINGUASTEL_E_QOVR = -43,
+    LINGUASTEL_E_RLWAI = -49,
+    LINGUASTEL_E_TMOUT = -50,
+    LINGUASTEL_E_DLT = -51
+};
+
+/* Attributes, by their names in the standard. */
+enum {
+    LINGUASTEL_TA_TFIFO = 0, /* tasks wait in order of arrival */
+    LINGUASTEL_TA_TPRI = 1, /* tasks wait by priority: the senders of a data queue, the waiters of a mailbox */
+    LINGUASTEL_TA_MPRI = 2 /* a mailbox's messages by priority; may be added to 1 */
+};
+
+enum {
+    LINGUASTEL_TICK = 0,
+    LINGUASTEL_DEFINE_TASK,
+    LINGUASTEL_CRE_DTQ,
+    LINGUASTEL_DEL_DTQ,
+    LINGUASTEL_SND_DTQ,
+    LINGUASTEL_PSND_DTQ,
+    LINGUASTEL_TSND_DTQ,
+    LINGUASTEL_FSND_DTQ,
+    LINGUASTEL_RCV_DTQ,
+    LINGUASTEL_PRCV_DTQ,
+    LINGUASTEL_TRCV_DTQ,
+    LINGUASTEL_REF_DTQ,
+    LINGUASTEL_CRE_MBX,
+    LINGUASTEL_DEL_MBX,
+    LINGUASTEL_SND_MBX,
+    LINGUASTEL_RCV_MBX,
+    LINGUASTEL_PRCV_MBX,
+    LINGUASTEL_TRCV_MBX,
+    LINGUASTEL_REF_MBX,
+    LINGUASTEL_REL_WAI,
+    LINGUASTEL_SUS_TSK,
+    LINGUASTEL_RSM_TSK,
+    LINGUASTEL_LOOK,
+    LINGUASTEL_FETCH,
+    LINGUASTEL_LAST_CALL = LINGUASTEL_FETCH
+};
+
+/* ---- The record ---- */
+
+/* What a task waits for: the numbers that look gives as a. */
+enum { LINGUASTEL_NO_WAIT = 0, LINGUASTEL_SENDING = 1, LINGUASTEL_RECEIVING = 2, LINGUASTEL_AT_MAILBOX = 3 };
+
+/* A task's flags are a sum of these. */
+enum { LINGUASTEL_DEFINED = 1, LINGUASTEL_SUSPENDED = 2 };
+
+typedef struct {
+    uint32_t word; /* of the stored pair that fetch gives */
+    uint32_t end; /* the tick that ends the wait, where it is timed */
+    uint32_t sending; /* the word that a sender waits with */
+    uint8_t wait;
+    uint8_t object; /* the data queue or mailbox of the wait */
+    uint8_t timed; /* 1 where a tick ends the wait, else 0 */
+    uint8_t code; /* of the stored pair, without its minus sign */
+    uint8_t flags;
+} LinguastelTask;
+
+/* The stored words start at words[head] and go on, from the last place to the first. */
+typedef struct {
+    uint32_t words[LINGUASTEL_WORDS];
+    uint8_t head;
+    uint8_t count;
+    uint8_t capacity;
+} LinguastelRing;
+
+typedef struct {
+    LinguastelRing ring;
+    uint8_t defined; /* 1 or 0 */
+    uint8_t attribute;
+} LinguastelQueue;
+
+typedef struct {
+    uint8_t defined; /* 1 or 0 */
+    uint8_t attribute;
+    uint8_t highest; /* highest message priority, kept with LINGUASTEL_TA_MPRI alone */
+} LinguastelMailbox;
+
+/*
+ * Chains of tasks or messages. link[n] is the number behind number n, 0 at the end; the cells behind those of all numbers hold the first number of each
+ * chain. key[n] is number n's priority.
+ */
+typedef struct {
+    uint8_t link[81];
+    uint8_t key[65];
+} LinguastelChains;
+
+/* Cell LINGUASTEL_SENDERS + q of waiting.link has the head sender of data queue q, the next two likewise; the last one is of messages.link. */
+enum { LINGUASTEL_SENDERS = 32, LINGUASTEL_RECEIVERS = 48, LINGUASTEL_WAITERS = 64, LINGUASTEL_QUEUED_MESSAGES = 64 };
+
+/*
+ * Entry n of each array belongs to number n, entry 0 to nobody. A host may read the record between calls. What it writes there is taken as it is if the
+ * record is then sound; else every call of a known number answers E_SYS.
+ */
+typedef struct {
+    uint32_t counter;
+    LinguastelTask tasks[LINGUASTEL_TASKS + 1];
+    LinguastelQueue queues[LINGUASTEL_QUEUES + 1];
+    LinguastelChains waiting; /* the tasks that wait, with the priorities of all tasks */
+    LinguastelChains messages; /* the messages that are queued, with the priorities kept for them */
+    LinguastelMailbox mailboxes[LINGUASTEL_MAILBOXES + 1];
+} LinguastelRecord;
+
+/* ---- A call and its answer ---- */
+
+typedef struct {
+    uint32_t number;
+    uint32_t caller; /* 0 for a handler or start-up */
+    uint32_t locked; /* 0 for no; every other number is yes */
+    uint32_t disabled; /* likewise */
+    uint32_t object; /* the task, data queue or mailbox */
+    uint32_t value; /* word, message, capacity, task priority or highest message priority */
+    int32_t tmout;
+    uint32_t attribute; /* attribute or message priority */
+} LinguastelCall;
+
+enum { LINGUASTEL_FINISHED = 0, LINGUASTEL_WAITS = 1 };
+
+typedef struct {
+    uint32_t kind;
+    int32_t code; /* of a finished answer, else 0 */
+    uint32_t place; /* of one that waits, else 0 */
+    uint32_t a;
+    uint32_t b;
+    uint32_t c;
+} LinguastelAnswer;
+
+typedef struct {
+    uint32_t caller;
+    bool locked;
+    bool disabled;
+} LinguastelContext;
+
+/* ---- The layout: the library was compiled for these places ---- */
+
+#define LINGUASTEL_LAYOUT(type, size, align) \
+    _Static_assert(sizeof(type) == (size), "size of " #type); \
+    _Static_assert(_Alignof(type) == (align), "alignment of " #type)
+#define LINGUASTEL_FIELD(type, field, offset, size) \
+    _Static_assert(offsetof(type, field) == (offset), "place of " #type "." #field); \
+    _Static_assert(sizeof(((type *)0)->field) == (size), "size of " #type "." #field)
+
+LINGUASTEL_LAYOUT(LinguastelTask, 20, 4);
+LINGUASTEL_FIELD(LinguastelTask, word, 0, 4);
+LINGUASTEL_FIELD(LinguastelTask, end, 4, 4);
+LINGUASTEL_FIELD(LinguastelTask, sending, 8, 4);
+LINGUASTEL_FIELD(LinguastelTask, wait, 12, 1);
+LINGUASTEL_FIELD(LinguastelTask, object, 13, 1);
+LINGUASTEL_FIELD(LinguastelTask, timed, 14, 1);
+LINGUASTEL_FIELD(LinguastelTask, code, 15, 1);
+LINGUASTEL_FIELD(LinguastelTask, flags, 16, 1);
+
+LINGUASTEL_LAYOUT(LinguastelRing, 68, 4);
+LINGUASTEL_FIELD(LinguastelRing, words, 0, 64);
+LINGUASTEL_FIELD(LinguastelRing, head, 64, 1);
+LINGUASTEL_FIELD(LinguastelRing, count, 65, 1);
+LINGUASTEL_FIELD(LinguastelRing, capacity, 66, 1);
+
+LINGUASTEL_LAYOUT(LinguastelQueue, 72, 4);
+LINGUASTEL_FIELD(LinguastelQueue, ring, 0, 68);
+LINGUASTEL_FIELD(LinguastelQueue, defined, 68, 1);
+LINGUASTEL_FIELD(LinguastelQueue, attribute, 69, 1);
+
+LINGUASTEL_LAYOUT(LinguastelMailbox, 3, 1);
+LINGUASTEL_FIELD(LinguastelMailbox, defined, 0, 1);
+LINGUASTEL_FIELD(LinguastelMailbox, attribute, 1, 1);
+LINGUASTEL_FIELD(LinguastelMailbox, highest, 2, 1);
+
+LINGUASTEL_LAYOUT(LinguastelChains, 146, 1);
+LINGUASTEL_FIELD(LinguastelChains, link, 0, 81);
+LINGUASTEL_FIELD(LinguastelChains, key, 81, 65);
+
+LINGUASTEL_LAYOUT(LinguastelRecord, 2232, 4);
+LINGUASTEL_FIELD(LinguastelRecord, counter, 0, 4);
+LINGUASTEL_FIELD(LinguastelRecord, tasks, 4, 660);
+LINGUASTEL_FIELD(LinguastelRecord, queues, 664, 1224);
+LINGUASTEL_FIELD(LinguastelRecord, waiting, 1888, 146);
+LINGUASTEL_FIELD(LinguastelRecord, messages, 2034, 146);
+LINGUASTEL_FIELD(LinguastelRecord, mailboxes, 2180, 51);
+
+LINGUASTEL_LAYOUT(LinguastelCall, 32, 4);
+LINGUASTEL_FIELD(LinguastelCall, number, 0, 4);
+LINGUASTEL_FIELD(LinguastelCall, caller, 4, 4);
+LINGUASTEL_FIELD(LinguastelCall, locked, 8, 4);
+LINGUASTEL_FIELD(LinguastelCall, disabled, 12, 4);
+LINGUASTEL_FIELD(LinguastelCall, object, 16, 4);
+LINGUASTEL_FIELD(LinguastelCall, value, 20, 4);
+LINGUASTEL_FIELD(LinguastelCall, tmout, 24, 4);
+LINGUASTEL_FIELD(LinguastelCall, attribute, 28, 4);
+
+LINGUASTEL_LAYOUT(LinguastelAnswer, 24, 4);
+LINGUASTEL_FIELD(LinguastelAnswer, kind, 0, 4);
+LINGUASTEL_FIELD(LinguastelAnswer, code, 4, 4);
+LINGUASTEL_FIELD(LinguastelAnswer, place, 8, 4);
+LINGUASTEL_FIELD(LinguastelAnswer, a, 12, 4);
+LINGUASTEL_FIELD(LinguastelAnswer, b, 16, 4);
+LINGUASTEL_FIELD(LinguastelAnswer, c, 20, 4);
+
+#undef LINGUASTEL_LAYOUT
+#undef LINGUASTEL_FIELD
+
+/* ---- The library's functions: the pointer must be that of a record ---- */
+
+size_t linguastel_record_size(void);
+size_t linguastel_record_align(void);
+
+/* Makes the record empty, whatever its bytes were: nothing is defined, the counter is 0. */
+void linguastel_empty(LinguastelRecord *record);
+
+bool linguastel_sound(const LinguastelRecord *record);
+
+/* One call; number 0 is the tick. A refused call changes no field. The bytes between fields are not promised. */
+LinguastelAnswer linguastel_call(LinguastelRecord *record, LinguastelCall call);
+
+LinguastelAnswer linguastel_tick(LinguastelRecord *record);
+
+/* ---- The same with a test of the pointer ---- */
+
+/*
+ * A pointer that is null or not aligned leads to no record. Document 01 has no row for it. It is answered like a state that isn't sound: E_SYS with
+ * zero words, after step 0's E_PAR for a call number above 23. No memory is touched. (C lets a compiler assume that a pointer is aligned; gcc and clang
+ * hand it over as it is, so that the test finds the fault.)
+ */
+static inline bool linguastel_pointer_fits(const LinguastelRecord *record)
+{
+    return record != NULL && (uintptr_t)record % LINGUASTEL_RECORD_ALIGN == 0;
+}
+
+static inline LinguastelAnswer linguastel_refusal(int32_t code)
+{
+    return (LinguastelAnswer){ .kind = LINGUASTEL_FINISHED, .code = code };
+}
+
+static inline LinguastelAnswer linguastel_guarded_call(LinguastelRecord *record, LinguastelCall call)
+{
+    if (linguastel_pointer_fits(record)) {
+        return linguastel_call(record, call);
+    }
+    return linguastel_refusal(call.number > LINGUASTEL_LAST_CALL ? LINGUASTEL_E_PAR : LINGUASTEL_E_SYS);
+}
+
+static inline LinguastelAnswer linguastel_guarded_tick(LinguastelRecord *record)
+{
+    return linguastel_pointer_fits(record) ? linguastel_tick(record) : linguastel_refusal(LINGUASTEL_E_SYS);
+}
+
+/* Whether the record is empty now. */
+static inline bool linguastel_guarded_empty(LinguastelRecord *record)
+{
+    if (!linguastel_pointer_fits(record)) {
+        return false;
+    }
+    linguastel_empty(record);
+    return true;
+}
+
+static inline bool linguastel_guarded_sound(const LinguastelRecord *record)
+{
+    return linguastel_pointer_fits(record) && linguastel_sound(record);
+}
+
+/* ---- Help for hosts ---- */
+
+/* Nothing locked, nothing disabled. */
+static inline LinguastelContext linguastel_as_task(uint32_t task)
+{
+    return (LinguastelContext){ .caller = task };
+}
+
+static inline LinguastelContext linguastel_as_handler(void)
+{
+    return linguastel_as_task(0);
+}
+
+static inline const char *linguastel_code_name(int32_t code)
+{
+    switch (code) {
+    case LINGUASTEL_E_OK: return "E_OK";
+    case LINGUASTEL_E_SYS: return "E_SYS";
+    case LINGUASTEL_E_PAR: return "E_PAR";
+    case LINGUASTEL_E_ID: return "E_ID";
+    case LINGUASTEL_E_CTX: return "E_CTX";
+    case LINGUASTEL_E_ILUSE: return "E_ILUSE";
+    case LINGUASTEL_E_OBJ: return "E_OBJ";
+    case LINGUASTEL_E_NOEXS: return "E_NOEXS";
+    case LINGUASTEL_E_QOVR: return "E_QOVR";
+    case LINGUASTEL_E_RLWAI: return "E_RLWAI";
+    case LINGUASTEL_E_TMOUT: return "E_TMOUT";
+    case LINGUASTEL_E_DLT: return "E_DLT";
+    default: return "no code of the kernel";
+    }
+}
+
+/* ---- The calls by name ---- */
+
+/*
+ * Numbers of tasks, data queues and mailboxes have 32 bits, so that 300 or -1 reaches the kernel as it is and is refused; a byte would have made 44 or
+ * 255 of it. Fields that the call's row in the table of calls doesn't name are 0.
+ */
+static inline LinguastelAnswer linguastel_make_call(
+    LinguastelRecord *record, LinguastelContext context, uint32_t number, uint32_t object, uint32_t value, uint32_t attribute, int32_t tmout)
+{
+    LinguastelCall call = {
+        .number = number,
+        .caller = context.caller,
+        .locked = context.locked,
+        .disabled = context.disabled,
+        .object = object,
+        .value = value,
+        .tmout = tmout,
+        .attribute = attribute,
+    };
+    return linguastel_guarded_call(record, call);
+}
+
+static inline LinguastelAnswer linguastel_define_task(LinguastelRecord *record, LinguastelContext context, uint32_t task, uint32_t priority)
+{
+    return linguastel_make_call(record, context, LINGUASTEL_DEFINE_TASK, task, priority, 0, 0);
+}
+
+static inline LinguastelAnswer linguastel_cre_dtq(
+    LinguastelRecord *record, LinguastelContext context, uint32_t queue, uint32_t attribute, uint32_t capacity)
+{
+    return linguastel_make_call(record, context, LINGUASTEL_CRE_DTQ, queue, capacity, attribute, 0);
+}
+
+static inline LinguastelAnswer linguastel_del_dtq(LinguastelRecord *record, LinguastelContext context, uint32_t queue)
+{
+    return linguastel_make_call(record, context, LINGUASTEL_DEL_DTQ, queue, 0, 0, 0);
+}
+
+static inline LinguastelAnswer linguastel_snd_dtq(LinguastelRecord *record, LinguastelContext context, uint32_t queue, uint32_t word)
+{
+    return linguastel_make_call(record, context, LINGUASTEL_SND_DTQ, queue, word, 0, 0);
+}
+
+static inline LinguastelAnswer linguastel_psnd_dtq(LinguastelRecord *record, LinguastelContext context, uint32_t queue, uint32_t word)
+{
+    return linguastel_make_call(record, context, LINGUASTEL_PSND_DTQ, queue, word, 0, 0);
+}
+
+static inline LinguastelAnswer linguastel_tsnd_dtq(LinguastelRecord *record, LinguastelContext context, uint32_t queue, uint32_t word, int32_t tmout)
+{
+    return linguastel_make_call(record, context, LINGUASTEL_TSND_DTQ, queue, word, 0, tmout);
+}
+
+static inline LinguastelAnswer linguastel_fsnd_dtq(LinguastelRecord *record, LinguastelContext context, uint32_t queue, uint32_t word)
+{
+    return linguastel_make_call(record, context, LINGUASTEL_FSND_DTQ, queue, word, 0, 0);
+}
+
+static inline LinguastelAnswer linguastel_rcv_dtq(LinguastelRecord *record, LinguastelContext context, uint32_t queue)
+{
+    return linguastel_make_call(record, context, LINGUASTEL_RCV_DTQ, queue, 0, 0, 0);
+}
+
+static inline LinguastelAnswer linguastel_prcv_dtq(LinguastelRecord *record, LinguastelContext context, uint32_t queue)
+{
+    return linguastel_make_call(record, context, LINGUASTEL_PRCV_DTQ, queue, 0, 0, 0);
+}
+
+static inline LinguastelAnswer linguastel_trcv_dtq(LinguastelRecord *record, LinguastelContext context, uint32_t queue, int32_t tmout)
+{
+    return linguastel_make_call(record, context, LINGUASTEL_TRCV_DTQ, queue, 0, 0, tmout);
+}
+
+static inline LinguastelAnswer linguastel_ref_dtq(LinguastelRecord *record, LinguastelContext context, uint32_t queue)
+{
+    return linguastel_make_call(record, context, LINGUASTEL_REF_DTQ, queue, 0, 0, 0);
+}
+
+static inline LinguastelAnswer linguastel_cre_mbx(
+    LinguastelRecord *record, LinguastelContext context, uint32_t mailbox, uint32_t attribute, uint32_t highest)
+{
+    return linguastel_make_call(record, context, LINGUASTEL_CRE_MBX, mailbox, highest, attribute, 0);
+}
+
+static inline LinguastelAnswer linguastel_del_mbx(LinguastelRecord *record, LinguastelContext context, uint32_t mailbox)
+{
+    return linguastel_make_call(record, context, LINGUASTEL_DEL_MBX, mailbox, 0, 0, 0);
+}
+
+static inline LinguastelAnswer linguastel_snd_mbx(
+    LinguastelRecord *record, LinguastelContext context, uint32_t mailbox, uint32_t message, uint32_t priority)
+{
+    return linguastel_make_call(record, context, LINGUASTEL_SND_MBX, mailbox, message, priority, 0);
+}
+
+static inline LinguastelAnswer linguastel_rcv_mbx(LinguastelRecord *record, LinguastelContext context, uint32_t mailbox)
+{
+    return linguastel_make_call(record, context, LINGUASTEL_RCV_MBX, mailbox, 0, 0, 0);
+}
+
+static inline LinguastelAnswer linguastel_prcv_mbx(LinguastelRecord *record, LinguastelContext context, uint32_t mailbox)
+{
+    return linguastel_make_call(record, context, LINGUASTEL_PRCV_MBX, mailbox, 0, 0, 0);
+}
+
+static inline LinguastelAnswer linguastel_trcv_mbx(LinguastelRecord *record, LinguastelContext context, uint32_t mailbox, int32_t tmout)
+{
+    return linguastel_make_call(record, context, LINGUASTEL_TRCV_MBX, mailbox, 0, 0, tmout);
+}
+
+static inline LinguastelAnswer linguastel_ref_mbx(LinguastelRecord *record, LinguastelContext context, uint32_t mailbox)
+{
+    return linguastel_make_call(record, context, LINGUASTEL_REF_MBX, mailbox, 0, 0, 0);
+}
+
+static inline LinguastelAnswer linguastel_rel_wai(LinguastelRecord *record, LinguastelContext context, uint32_t task)
+{
+    return linguastel_make_call(record, context, LINGUASTEL_REL_WAI, task, 0, 0, 0);
+}
+
+static inline LinguastelAnswer linguastel_sus_tsk(LinguastelRecord *record, LinguastelContext context, uint32_t task)
+{
+    return linguastel_make_call(record, context, LINGUASTEL_SUS_TSK, task, 0, 0, 0);
+}
+
+static inline LinguastelAnswer linguastel_rsm_tsk(LinguastelRecord *record, LinguastelContext context, uint32_t task)
+{
+    return linguastel_make_call(record, context, LINGUASTEL_RSM_TSK, task, 0, 0, 0);
+}
+
+static inline LinguastelAnswer linguastel_look(LinguastelRecord *record, LinguastelContext context, uint32_t task)
+{
+    return linguastel_make_call(record, context, LINGUASTEL_LOOK, task, 0, 0, 0);
+}
+
+static inline LinguastelAnswer linguastel_fetch(LinguastelRecord *record, LinguastelContext context, uint32_t task)
+{
+    return linguastel_make_call(record, context, LINGUASTEL_FETCH, task, 0, 0, 0);
+}
+
+/* ---- The i-forms: the calls that a handler, or start-up, may make ---- */
+
+static inline LinguastelAnswer linguastel_idefine_task(LinguastelRecord *record, uint32_t task, uint32_t priority)
+{
+    return linguastel_define_task(record, linguastel_as_handler(), task, priority);
+}
+
+static inline LinguastelAnswer linguastel_icre_dtq(LinguastelRecord *record, uint32_t queue, uint32_t attribute, uint32_t capacity)
+{
+    return linguastel_cre_dtq(record, linguastel_as_handler(), queue, attribute, capacity);
+}
+
+static inline LinguastelAnswer linguastel_ipsnd_dtq(LinguastelRecord *record, uint32_t queue, uint32_t word)
+{
+    return linguastel_psnd_dtq(record, linguastel_as_handler(), queue, word);
+}
+
+static inline LinguastelAnswer linguastel_ifsnd_dtq(LinguastelRecord *record, uint32_t queue, uint32_t word)
+{
+    return linguastel_fsnd_dtq(record, linguastel_as_handler(), queue, word);
+}
+
+static inline LinguastelAnswer linguastel_iprcv_dtq(LinguastelRecord *record, uint32_t queue)
+{
+    return linguastel_prcv_dtq(record, linguastel_as_handler(), queue);
+}
+
+static inline LinguastelAnswer linguastel_iref_dtq(LinguastelRecord *record, uint32_t queue)
+{
+    return linguastel_ref_dtq(record, linguastel_as_handler(), queue);
+}
+
+static inline LinguastelAnswer linguastel_icre_mbx(LinguastelRecord *record, uint32_t mailbox, uint32_t attribute, uint32_t highest)
+{
+    return linguastel_cre_mbx(record, linguastel_as_handler(), mailbox, attribute, highest);
+}
+
+static inline LinguastelAnswer linguastel_isnd_mbx(LinguastelRecord *record, uint32_t mailbox, uint32_t message, uint32_t priority)
+{
+    return linguastel_snd_mbx(record, linguastel_as_handler(), mailbox, message, priority);
+}
+
+static inline LinguastelAnswer linguastel_iprcv_mbx(LinguastelRecord *record, uint32_t mailbox)
+{
+    return linguastel_prcv_mbx(record, linguastel_as_handler(), mailbox);
+}
+
+static inline LinguastelAnswer linguastel_iref_mbx(LinguastelRecord *record, uint32_t mailbox)
+{
+    return linguastel_ref_mbx(record, linguastel_as_handler(), mailbox);
+}
+
+static inline LinguastelAnswer linguastel_irel_wai(LinguastelRecord *record, uint32_t task)
+{
+    return linguastel_rel_wai(record, linguastel_as_handler(), task);
+}
+
+static inline LinguastelAnswer linguastel_isus_tsk(LinguastelRecord *record, uint32_t task)
+{
+    return linguastel_sus_tsk(record, linguastel_as_handler(), task);
+}
+
+static inline LinguastelAnswer linguastel_irsm_tsk(LinguastelRecord *record, uint32_t task)
+{
+    return linguastel_rsm_tsk(record, linguastel_as_handler(), task);
+}
+
+static inline LinguastelAnswer linguastel_ilook(LinguastelRecord *record, uint32_t task)
+{
+    return linguastel_look(record, linguastel_as_handler(), task);
+}
+
+static inline LinguastelAnswer linguastel_ifetch(LinguastelRecord *record, uint32_t task)
+{
+    return linguastel_fetch(record, linguastel_as_handler(), task);
+}
+
+#endif

@@ -1,0 +1,11 @@
+// Tells cargo where the static library is: in LINGUASTEL_LIB, or where `rt staticlib linguastel` writes it.
+use std::env;
+use std::path::PathBuf;
+
+fn main() {
+    let written = || PathBuf::from(env::var_os("CARGO_MANIFEST_DIR").unwrap_or_default()).join("../../target/staticlib");
+    let folder = env::var_os("LINGUASTEL_LIB").map_or_else(written, PathBuf::from);
+    println!("cargo:rerun-if-env-changed=LINGUASTEL_LIB");
+    println!("cargo:rerun-if-changed={}", folder.join("liblinguastel.a").display());
+    println!("cargo:rustc-link-search=native={}", folder.display());
+}

@@ -1,0 +1,194 @@
+//! A host in Rust: the same story as hosts/c/demo.c, call for call, and the same output.
+use linguastel::{code_name, Answer, Context, Outcome, Record, E_NOEXS, NO_WAIT, TA_TFIFO};
+
+/// A host uses the kernel in five lines.
+fn five_lines() -> Answer {
+    let mut record = Record::empty();
+    record.idefine_task(1, 5);
+    record.icre_dtq(1, TA_TFIFO, 8);
+    record.snd_dtq(Context::task(1), 1, 42);
+    record.iprcv_dtq(1)
+}
+
+// ── The carriers ──
+
+const A_IMPORT: u32 = 1;
+const A_READER: u32 = 2;
+const B_IMPORT: u32 = 3;
+const B_READER: u32 = 4;
+const OPERATOR: u32 = 5;
+
+const A_QUEUE: u32 = 1;
+const B_QUEUE: u32 = 2;
+
+const PRIORITY: u32 = 5;
+const CAPACITY: u32 = 8;
+const STEPS: usize = 12;
+
+// Each line of carrier A's file but the first stands for so many of the line before it.
+const A_LINES: u32 = 10;
+const A_COPIES: u64 = 10;
+
+// The tmout of carrier A's sends.
+const A_TMOUT: i32 = 3;
+
+// Carrier B's file; its reader empties the queue in every fourth step.
+const B_WORDS: [u32; STEPS] = [615, 640, 705, 730, 800, 830, 915, 1000, 1045, 1130, 1215, 1300];
+const B_READS_EVERY: usize = 4;
+
+struct Host {
+    record: Record,
+    // Of carrier A's file, to be sent next; it is its own number.
+    element: u32,
+    a_waits: bool,
+    a_stopped: bool,
+    a_received: u32,
+    b_received: Vec<u32>,
+}
+
+// Counted, not built: the import task makes an element when it can send it.
+fn elements_of_a() -> u64 {
+    A_COPIES.pow(A_LINES - 1)
+}
+
+fn start() -> Host {
+    let mut record = Record::empty();
+    for task in A_IMPORT..=OPERATOR {
+        record.idefine_task(task, PRIORITY);
+    }
+    for queue in A_QUEUE..=B_QUEUE {
+        record.icre_dtq(queue, TA_TFIFO, CAPACITY);
+    }
+    Host { record, element: 1, a_waits: false, a_stopped: false, a_received: 0, b_received: Vec::new() }
+}
+
+// ── What is printed of an answer ──
+
+fn say(what: &str, answer: Answer) {
+    match answer.outcome() {
+        Outcome::Waits(place) => println!("      {what}: waits, place {place}"),
+        Outcome::Finished(code) if answer.a != 0 => println!("      {what}: {}, {}", code_name(code), answer.a),
+        Outcome::Finished(code) => println!("      {what}: {}", code_name(code)),
+    }
+}
+
+// A queue's stored words, a # for each, and whether a sender waits.
+fn queue_text(reference: Answer) -> String {
+    if reference.code == E_NOEXS {
+        return format!("{:23}", "deleted");
+    }
+    let bar: String = (0..CAPACITY).map(|place| if place < reference.c { '#' } else { '.' }).collect();
+    format!("{bar} {:14}", if reference.a != 0 { "a sender waits" } else { "" })
+}
+
+impl Host {
+    // ── What is done in a step ──
+
+    fn b_imports(&mut self, step: usize) {
+        self.record.snd_dtq(Context::task(B_IMPORT), B_QUEUE, B_WORDS[step]);
+    }
+
+    fn b_receives(&mut self) -> Answer {
+        self.record.prcv_dtq(Context::task(B_READER), B_QUEUE)
+    }
+
+    // Until the queue is empty.
+    fn b_reads(&mut self) {
+        let mut answer = self.b_receives();
+        while answer.is_ok() {
+            self.b_received.push(answer.a);
+            answer = self.b_receives();
+        }
+    }
+
+    fn a_reads(&mut self) {
+        let answer = self.record.prcv_dtq(Context::task(A_READER), A_QUEUE);
+        say("A's reader, prcv_dtq", answer);
+        self.a_received += u32::from(answer.is_ok());
+    }
+
+    // What is done to carrier A's queue or import task. Its reader takes two elements, then no more.
+    fn happen(&mut self, step: usize) {
+        match step {
+            1 | 2 => self.a_reads(),
+            6 => say("handler, rel_wai of A's import task", self.record.irel_wai(A_IMPORT)),
+            8 => say("operator, del_dtq of A's queue", self.record.del_dtq(Context::task(OPERATOR), A_QUEUE)),
+            _ => (),
+        }
+    }
+
+    // The import task is able again and learns how its wait ended. An element whose wait ended with another code than E_OK was withdrawn.
+    fn a_wakes(&mut self) {
+        let ended = self.record.fetch(Context::task(A_IMPORT), A_IMPORT);
+        say("A's import task, fetch", ended);
+        self.element += u32::from(ended.is_ok());
+        self.a_waits = false;
+    }
+
+    fn a_sends(&mut self) -> Answer {
+        self.record.tsnd_dtq(Context::task(A_IMPORT), A_QUEUE, self.element, A_TMOUT)
+    }
+
+    // Sends element after element, until one has to wait or is refused.
+    fn a_imports(&mut self) {
+        if self.a_stopped || self.record.ilook(A_IMPORT).a != u32::from(NO_WAIT) {
+            return;
+        }
+        if self.a_waits {
+            self.a_wakes();
+        }
+        let mut answer = self.a_sends();
+        while answer.is_ok() {
+            self.element += 1;
+            answer = self.a_sends();
+        }
+        self.a_waits = answer.waits();
+        self.a_stopped = !answer.waits();
+        say(&format!("A's import task, tsnd_dtq of element {}", self.element), answer);
+    }
+
+    fn draw(&mut self) {
+        let (a, b) = (queue_text(self.record.iref_dtq(A_QUEUE)), queue_text(self.record.iref_dtq(B_QUEUE)));
+        println!("{:4}  {a}  {b}  {:2}, {}", self.record.counter, self.a_received, self.b_received.len());
+    }
+
+    fn tick(&mut self) {
+        let ticked = self.record.tick();
+        if ticked.a != 0 {
+            say("tick, waits that it ended", ticked);
+        }
+    }
+
+    // ── The story ──
+
+    fn play(&mut self) {
+        for step in 0..STEPS {
+            self.b_imports(step);
+            if (step + 1) % B_READS_EVERY == 0 {
+                self.b_reads();
+            }
+            self.happen(step);
+            self.a_imports();
+            self.draw();
+            self.tick();
+        }
+    }
+}
+
+fn main() {
+    println!("In five lines: a task sent 42, a handler received {}.\n", five_lines().a);
+
+    let mut host = start();
+    println!("Carrier A's file has {A_LINES} lines. Each but the first stands for {A_COPIES} of the line before it: {} elements.", elements_of_a());
+    println!(
+        "Carrier B's file has {STEPS} words. Each carrier has a data queue of {CAPACITY} words, an import task and a reader. # is a stored word.\n"
+    );
+    println!("tick  A's queue                B's queue                received: A, B");
+    host.play();
+
+    let (in_order, sound) = (host.b_received == B_WORDS, host.record.is_sound());
+    println!("\nCarrier A: {} of {} elements accepted, {} received.", host.element - 1, elements_of_a(), host.a_received);
+    println!("Carrier B: {} of {STEPS} words received, {}.", host.b_received.len(), if in_order { "in order" } else { "not in order" });
+    println!("The record is {}.", if sound { "sound" } else { "not sound" });
+    std::process::exit(i32::from(!(in_order && sound)));
+}

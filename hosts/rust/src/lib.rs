@@ -1,0 +1,547 @@
+//! Linguastel for hosts in Rust: the state record, the 23 calls and the tick. Document 01 says what each of them does; its words are used here.
+//!
+//! `rt staticlib linguastel` proves the library and writes target/staticlib/liblinguastel.a. With cargo, build.rs finds it there or in the folder that
+//! LINGUASTEL_LIB names. Without cargo: `rustc --edition 2021 --crate-type rlib -L native=target/staticlib hosts/rust/src/lib.rs`.
+//!
+//! The kernel's promise covers a record of any bytes and a call with any numbers, so every field is public and every function is safe. A `&mut Record`
+//! is a whole record that nobody else uses during the call. What stays the host's part: each call gets the record as the call before it left it, and
+//! the context is true.
+#![no_std]
+
+use core::mem::{align_of, offset_of, size_of};
+
+// ── Sizes and names ──
+
+// Numbers of tasks and objects start at 1.
+pub const TASKS: usize = 32;
+pub const QUEUES: usize = 16;
+pub const MAILBOXES: usize = 16;
+pub const MESSAGES: usize = 64;
+/// The largest capacity of a data queue.
+pub const WORDS: usize = 16;
+/// Of tasks and messages; 1 goes first.
+pub const LOWEST_PRIORITY: u32 = 16;
+pub const LONGEST_TMOUT: i32 = 2_147_483_646;
+/// The tmout that waits without end.
+pub const FOREVER: i32 = -1;
+
+pub const E_OK: i32 = 0;
+pub const E_SYS: i32 = -5;
+pub const E_PAR: i32 = -17;
+pub const E_ID: i32 = -18;
+pub const E_CTX: i32 = -25;
+pub const E_ILUSE: i32 = -28;
+pub const E_OBJ: i32 = -41;
+pub const E_NOEXS: i32 = -42;
+pub const E_QOVR: i32 = -43;
+pub const E_RLWAI: i32 = -49;
+pub const E_TMOUT: i32 = -50;
+pub const E_DLT: i32 = -51;
+
+pub const fn code_name(code: i32) -> &'static str {
+    match code {
+        E_OK => "E_OK",
+        E_SYS => "E_SYS",
+        E_PAR => "E_PAR",
+        E_ID => "E_ID",
+        E_CTX => "E_CTX",
+        E_ILUSE => "E_ILUSE",
+        E_OBJ => "E_OBJ",
+        E_NOEXS => "E_NOEXS",
+        E_QOVR => "E_QOVR",
+        E_RLWAI => "E_RLWAI",
+        E_TMOUT => "E_TMOUT",
+        E_DLT => "E_DLT",
+        _ => "no code of the kernel",
+    }
+}
+
+// Attributes, by their names in the standard.
+/// Tasks wait in order of arrival.
+pub const TA_TFIFO: u32 = 0;
+/// Tasks wait by priority: the senders of a data queue, the waiters of a mailbox.
+pub const TA_TPRI: u32 = 1;
+/// A mailbox's messages by priority; may be added to 1.
+pub const TA_MPRI: u32 = 2;
+
+/// The calls by number.
+pub mod number {
+    pub const TICK: u32 = 0;
+    pub const DEFINE_TASK: u32 = 1;
+    pub const CRE_DTQ: u32 = 2;
+    pub const DEL_DTQ: u32 = 3;
+    pub const SND_DTQ: u32 = 4;
+    pub const PSND_DTQ: u32 = 5;
+    pub const TSND_DTQ: u32 = 6;
+    pub const FSND_DTQ: u32 = 7;
+    pub const RCV_DTQ: u32 = 8;
+    pub const PRCV_DTQ: u32 = 9;
+    pub const TRCV_DTQ: u32 = 10;
+    pub const REF_DTQ: u32 = 11;
+    pub const CRE_MBX: u32 = 12;
+    pub const DEL_MBX: u32 = 13;
+    pub const SND_MBX: u32 = 14;
+    pub const RCV_MBX: u32 = 15;
+    pub const PRCV_MBX: u32 = 16;
+    pub const TRCV_MBX: u32 = 17;
+    pub const REF_MBX: u32 = 18;
+    pub const REL_WAI: u32 = 19;
+    pub const SUS_TSK: u32 = 20;
+    pub const RSM_TSK: u32 = 21;
+    pub const LOOK: u32 = 22;
+    pub const FETCH: u32 = 23;
+}
+
+// ── The record ──
+
+// What a task waits for: the numbers that look gives as a.
+pub const NO_WAIT: u8 = 0;
+pub const SENDING: u8 = 1;
+pub const RECEIVING: u8 = 2;
+pub const AT_MAILBOX: u8 = 3;
+
+// A task's flags are a sum of these.
+pub const DEFINED: u8 = 1;
+pub const SUSPENDED: u8 = 2;
+
+#[repr(C)]
+#[derive(Clone, Copy, PartialEq, Eq, Debug)]
+pub struct Task {
+    /// Of the stored pair that fetch gives.
+    pub word: u32,
+    /// The tick that ends the wait, where it is timed.
+    pub end: u32,
+    /// The word that a sender waits with.
+    pub sending: u32,
+    pub wait: u8,
+    /// The data queue or mailbox of the wait.
+    pub object: u8,
+    /// 1 where a tick ends the wait, else 0.
+    pub timed: u8,
+    /// Of the stored pair, without its minus sign.
+    pub code: u8,
+    pub flags: u8,
+}
+
+/// The stored words start at `words[head]` and go on, from the last place to the first.
+#[repr(C)]
+#[derive(Clone, Copy, PartialEq, Eq, Debug)]
+pub struct Ring {
+    pub words: [u32; WORDS],
+    pub head: u8,
+    pub count: u8,
+    pub capacity: u8,
+}
+
+#[repr(C)]
+#[derive(Clone, Copy, PartialEq, Eq, Debug)]
+pub struct Queue {
+    pub ring: Ring,
+    /// 1 or 0.
+    pub defined: u8,
+    pub attribute: u8,
+}
+
+#[repr(C)]
+#[derive(Clone, Copy, PartialEq, Eq, Debug)]
+pub struct Mailbox {
+    /// 1 or 0.
+    pub defined: u8,
+    pub attribute: u8,
+    /// The highest message priority, kept with `TA_MPRI` alone.
+    pub highest: u8,
+}
+
+/// Chains of tasks or messages. `link[n]` is the number behind number n, 0 at the end; the cells behind those of all numbers hold the first number of
+/// each chain. `key[n]` is number n's priority.
+#[repr(C)]
+#[derive(Clone, Copy, PartialEq, Eq, Debug)]
+pub struct Chains {
+    pub link: [u8; 81],
+    pub key: [u8; 65],
+}
+
+// Cell SENDERS + q of `waiting.link` has the head sender of data queue q, the next two likewise; the last one is of `messages.link`.
+pub const SENDERS: usize = 32;
+pub const RECEIVERS: usize = 48;
+pub const WAITERS: usize = 64;
+pub const QUEUED_MESSAGES: usize = 64;
+
+/// Entry n of each array belongs to number n, entry 0 to nobody. What a host writes here is taken as it is if the record is then sound; else every call
+/// of a known number answers E_SYS.
+#[repr(C)]
+#[derive(Clone, Copy, PartialEq, Eq, Debug)]
+pub struct Record {
+    pub counter: u32,
+    pub tasks: [Task; TASKS + 1],
+    pub queues: [Queue; QUEUES + 1],
+    /// The tasks that wait, with the priorities of all tasks.
+    pub waiting: Chains,
+    /// The messages that are queued, with the priorities kept for them.
+    pub messages: Chains,
+    pub mailboxes: [Mailbox; MAILBOXES + 1],
+}
+
+// ── A call and its answer ──
+
+/// Who calls, and whether the CPU is locked or dispatching disabled.
+#[derive(Clone, Copy, PartialEq, Eq, Debug, Default)]
+pub struct Context {
+    /// 0 for a handler or start-up.
+    pub caller: u32,
+    pub locked: bool,
+    pub disabled: bool,
+}
+
+impl Context {
+    /// A handler or start-up; nothing is locked or disabled.
+    pub const HANDLER: Context = Context::task(0);
+
+    /// A task; nothing is locked or disabled.
+    pub const fn task(task: u32) -> Context {
+        Context { caller: task, locked: false, disabled: false }
+    }
+}
+
+/// Numbers of tasks, data queues and mailboxes have 32 bits, so that 300 reaches the kernel as it is and is refused; a byte would have made 44 of it.
+#[repr(C)]
+#[derive(Clone, Copy, PartialEq, Eq, Debug, Default)]
+pub struct Call {
+    pub number: u32,
+    pub caller: u32,
+    /// 0 for no; every other number is yes.
+    pub locked: u32,
+    /// Likewise.
+    pub disabled: u32,
+    /// The task, data queue or mailbox.
+    pub object: u32,
+    /// Word, message, capacity, task priority or highest message priority.
+    pub value: u32,
+    pub tmout: i32,
+    /// Attribute or message priority.
+    pub attribute: u32,
+}
+
+impl Call {
+    /// A call with its context and the object that it names; the other fields are 0.
+    #[inline]
+    pub fn new(number: u32, context: Context, object: u32) -> Call {
+        let (caller, locked, disabled) = (context.caller, context.locked.into(), context.disabled.into());
+        Call { number, caller, locked, disabled, object, ..Call::default() }
+    }
+}
+
+/// An answer in document 01's numbers.
+#[repr(C)]
+#[derive(Clone, Copy, PartialEq, Eq, Debug)]
+pub struct Answer {
+    /// 0 finished, 1 waits.
+    pub kind: u32,
+    /// Of a finished answer, else 0.
+    pub code: i32,
+    /// Of one that waits, else 0.
+    pub place: u32,
+    pub a: u32,
+    pub b: u32,
+    pub c: u32,
+}
+
+#[derive(Clone, Copy, PartialEq, Eq, Debug)]
+pub enum Outcome {
+    /// With this code.
+    Finished(i32),
+    /// At this place.
+    Waits(u32),
+}
+
+impl Answer {
+    #[inline]
+    pub fn outcome(self) -> Outcome {
+        if self.kind == 0 {
+            Outcome::Finished(self.code)
+        } else {
+            Outcome::Waits(self.place)
+        }
+    }
+
+    #[inline]
+    pub fn is_ok(self) -> bool {
+        self.outcome() == Outcome::Finished(E_OK)
+    }
+
+    #[inline]
+    pub fn waits(self) -> bool {
+        self.kind != 0
+    }
+}
+
+// ── The layout: the library was compiled for these places ──
+
+macro_rules! layout {
+    ($type:ty, $size:literal, $align:literal, $($field:ident $offset:literal),+) => {
+        const _: () = assert!(size_of::<$type>() == $size && align_of::<$type>() == $align);
+        $(const _: () = assert!(offset_of!($type, $field) == $offset);)+
+    };
+}
+
+layout!(Task, 20, 4, word 0, end 4, sending 8, wait 12, object 13, timed 14, code 15, flags 16);
+layout!(Ring, 68, 4, words 0, head 64, count 65, capacity 66);
+layout!(Queue, 72, 4, ring 0, defined 68, attribute 69);
+layout!(Mailbox, 3, 1, defined 0, attribute 1, highest 2);
+layout!(Chains, 146, 1, link 0, key 81);
+layout!(Record, 2232, 4, counter 0, tasks 4, queues 664, waiting 1888, messages 2034, mailboxes 2180);
+layout!(Call, 32, 4, number 0, caller 4, locked 8, disabled 12, object 16, value 20, tmout 24, attribute 28);
+layout!(Answer, 24, 4, kind 0, code 4, place 8, a 12, b 16, c 20);
+
+// ── The library's functions ──
+
+#[link(name = "linguastel", kind = "static")]
+extern "C" {
+    fn linguastel_record_size() -> usize;
+    fn linguastel_record_align() -> usize;
+    fn linguastel_empty(record: &mut Record);
+    fn linguastel_sound(record: &Record) -> bool;
+    fn linguastel_call(record: &mut Record, call: Call) -> Answer;
+    fn linguastel_tick(record: &mut Record) -> Answer;
+}
+
+/// The record's size and alignment as the library has them, so that a host can see that it linked the library that this layout is for.
+pub fn library_layout() -> (usize, usize) {
+    // SAFETY: both take nothing and return a constant.
+    unsafe { (linguastel_record_size(), linguastel_record_align()) }
+}
+
+impl Record {
+    // What `empty` lends: the library writes over all of it.
+    const ZEROS: Record = Record {
+        counter: 0,
+        tasks: [Task { word: 0, end: 0, sending: 0, wait: 0, object: 0, timed: 0, code: 0, flags: 0 }; TASKS + 1],
+        queues: [Queue { ring: Ring { words: [0; WORDS], head: 0, count: 0, capacity: 0 }, defined: 0, attribute: 0 }; QUEUES + 1],
+        waiting: Chains { link: [0; 81], key: [0; 65] },
+        messages: Chains { link: [0; 81], key: [0; 65] },
+        mailboxes: [Mailbox { defined: 0, attribute: 0, highest: 0 }; MAILBOXES + 1],
+    };
+
+    /// The record in which nothing is defined, at counter 0.
+    pub fn empty() -> Record {
+        let mut record = Record::ZEROS;
+        // SAFETY: the reference is to a whole record of the layout above, and to nothing else; the function writes that record alone.
+        unsafe { linguastel_empty(&mut record) };
+        record
+    }
+
+    pub fn is_sound(&self) -> bool {
+        // SAFETY: the reference is to a whole record of the layout above, which the function reads. Any bytes will do.
+        unsafe { linguastel_sound(self) }
+    }
+
+    /// One call; number 0 is the tick. A refused call changes no field.
+    #[inline]
+    pub fn call(&mut self, call: Call) -> Answer {
+        // SAFETY: the reference is to a whole record of the layout above, and to nothing else; the function writes that record alone. Any bytes and any
+        // call will do.
+        unsafe { linguastel_call(self, call) }
+    }
+
+    #[inline]
+    pub fn tick(&mut self) -> Answer {
+        // SAFETY: as for `call`.
+        unsafe { linguastel_tick(self) }
+    }
+}
+
+/// The calls by name.
+impl Record {
+    #[inline]
+    pub fn define_task(&mut self, context: Context, task: u32, priority: u32) -> Answer {
+        self.call(Call { value: priority, ..Call::new(number::DEFINE_TASK, context, task) })
+    }
+
+    #[inline]
+    pub fn cre_dtq(&mut self, context: Context, queue: u32, attribute: u32, capacity: u32) -> Answer {
+        self.call(Call { value: capacity, attribute, ..Call::new(number::CRE_DTQ, context, queue) })
+    }
+
+    #[inline]
+    pub fn del_dtq(&mut self, context: Context, queue: u32) -> Answer {
+        self.call(Call::new(number::DEL_DTQ, context, queue))
+    }
+
+    #[inline]
+    pub fn snd_dtq(&mut self, context: Context, queue: u32, word: u32) -> Answer {
+        self.call(Call { value: word, ..Call::new(number::SND_DTQ, context, queue) })
+    }
+
+    #[inline]
+    pub fn psnd_dtq(&mut self, context: Context, queue: u32, word: u32) -> Answer {
+        self.call(Call { value: word, ..Call::new(number::PSND_DTQ, context, queue) })
+    }
+
+    #[inline]
+    pub fn tsnd_dtq(&mut self, context: Context, queue: u32, word: u32, tmout: i32) -> Answer {
+        self.call(Call { value: word, tmout, ..Call::new(number::TSND_DTQ, context, queue) })
+    }
+
+    #[inline]
+    pub fn fsnd_dtq(&mut self, context: Context, queue: u32, word: u32) -> Answer {
+        self.call(Call { value: word, ..Call::new(number::FSND_DTQ, context, queue) })
+    }
+
+    #[inline]
+    pub fn rcv_dtq(&mut self, context: Context, queue: u32) -> Answer {
+        self.call(Call::new(number::RCV_DTQ, context, queue))
+    }
+
+    #[inline]
+    pub fn prcv_dtq(&mut self, context: Context, queue: u32) -> Answer {
+        self.call(Call::new(number::PRCV_DTQ, context, queue))
+    }
+
+    #[inline]
+    pub fn trcv_dtq(&mut self, context: Context, queue: u32, tmout: i32) -> Answer {
+        self.call(Call { tmout, ..Call::new(number::TRCV_DTQ, context, queue) })
+    }
+
+    #[inline]
+    pub fn ref_dtq(&mut self, context: Context, queue: u32) -> Answer {
+        self.call(Call::new(number::REF_DTQ, context, queue))
+    }
+
+    #[inline]
+    pub fn cre_mbx(&mut self, context: Context, mailbox: u32, attribute: u32, highest: u32) -> Answer {
+        self.call(Call { value: highest, attribute, ..Call::new(number::CRE_MBX, context, mailbox) })
+    }
+
+    #[inline]
+    pub fn del_mbx(&mut self, context: Context, mailbox: u32) -> Answer {
+        self.call(Call::new(number::DEL_MBX, context, mailbox))
+    }
+
+    #[inline]
+    pub fn snd_mbx(&mut self, context: Context, mailbox: u32, message: u32, priority: u32) -> Answer {
+        self.call(Call { value: message, attribute: priority, ..Call::new(number::SND_MBX, context, mailbox) })
+    }
+
+    #[inline]
+    pub fn rcv_mbx(&mut self, context: Context, mailbox: u32) -> Answer {
+        self.call(Call::new(number::RCV_MBX, context, mailbox))
+    }
+
+    #[inline]
+    pub fn prcv_mbx(&mut self, context: Context, mailbox: u32) -> Answer {
+        self.call(Call::new(number::PRCV_MBX, context, mailbox))
+    }
+
+    #[inline]
+    pub fn trcv_mbx(&mut self, context: Context, mailbox: u32, tmout: i32) -> Answer {
+        self.call(Call { tmout, ..Call::new(number::TRCV_MBX, context, mailbox) })
+    }
+
+    #[inline]
+    pub fn ref_mbx(&mut self, context: Context, mailbox: u32) -> Answer {
+        self.call(Call::new(number::REF_MBX, context, mailbox))
+    }
+
+    #[inline]
+    pub fn rel_wai(&mut self, context: Context, task: u32) -> Answer {
+        self.call(Call::new(number::REL_WAI, context, task))
+    }
+
+    #[inline]
+    pub fn sus_tsk(&mut self, context: Context, task: u32) -> Answer {
+        self.call(Call::new(number::SUS_TSK, context, task))
+    }
+
+    #[inline]
+    pub fn rsm_tsk(&mut self, context: Context, task: u32) -> Answer {
+        self.call(Call::new(number::RSM_TSK, context, task))
+    }
+
+    #[inline]
+    pub fn look(&mut self, context: Context, task: u32) -> Answer {
+        self.call(Call::new(number::LOOK, context, task))
+    }
+
+    #[inline]
+    pub fn fetch(&mut self, context: Context, task: u32) -> Answer {
+        self.call(Call::new(number::FETCH, context, task))
+    }
+}
+
+/// The i-forms: the calls that a handler, or start-up, may make.
+impl Record {
+    #[inline]
+    pub fn idefine_task(&mut self, task: u32, priority: u32) -> Answer {
+        self.define_task(Context::HANDLER, task, priority)
+    }
+
+    #[inline]
+    pub fn icre_dtq(&mut self, queue: u32, attribute: u32, capacity: u32) -> Answer {
+        self.cre_dtq(Context::HANDLER, queue, attribute, capacity)
+    }
+
+    #[inline]
+    pub fn ipsnd_dtq(&mut self, queue: u32, word: u32) -> Answer {
+        self.psnd_dtq(Context::HANDLER, queue, word)
+    }
+
+    #[inline]
+    pub fn ifsnd_dtq(&mut self, queue: u32, word: u32) -> Answer {
+        self.fsnd_dtq(Context::HANDLER, queue, word)
+    }
+
+    #[inline]
+    pub fn iprcv_dtq(&mut self, queue: u32) -> Answer {
+        self.prcv_dtq(Context::HANDLER, queue)
+    }
+
+    #[inline]
+    pub fn iref_dtq(&mut self, queue: u32) -> Answer {
+        self.ref_dtq(Context::HANDLER, queue)
+    }
+
+    #[inline]
+    pub fn icre_mbx(&mut self, mailbox: u32, attribute: u32, highest: u32) -> Answer {
+        self.cre_mbx(Context::HANDLER, mailbox, attribute, highest)
+    }
+
+    #[inline]
+    pub fn isnd_mbx(&mut self, mailbox: u32, message: u32, priority: u32) -> Answer {
+        self.snd_mbx(Context::HANDLER, mailbox, message, priority)
+    }
+
+    #[inline]
+    pub fn iprcv_mbx(&mut self, mailbox: u32) -> Answer {
+        self.prcv_mbx(Context::HANDLER, mailbox)
+    }
+
+    #[inline]
+    pub fn iref_mbx(&mut self, mailbox: u32) -> Answer {
+        self.ref_mbx(Context::HANDLER, mailbox)
+    }
+
+    #[inline]
+    pub fn irel_wai(&mut self, task: u32) -> Answer {
+        self.rel_wai(Context::HANDLER, task)
+    }
+
+    #[inline]
+    pub fn isus_tsk(&mut self, task: u32) -> Answer {
+        self.sus_tsk(Context::HANDLER, task)
+    }
+
+    #[inline]
+    pub fn irsm_tsk(&mut self, task: u32) -> Answer {
+        self.rsm_tsk(Context::HANDLER, task)
+    }
+
+    #[inline]
+    pub fn ilook(&mut self, task: u32) -> Answer {
+        self.look(Context::HANDLER, task)
+    }
+
+    #[inline]
+    pub fn ifetch(&mut self, task: u32) -> Answer {
+        self.fetch(Context::HANDLER, task)
+    }
+}

@@ -1,0 +1,369 @@
+//! Tests the boundary between a host in Rust and the library: the layout, bad numbers, records that aren't sound, and hosts/runs through the wrapper.
+//! hosts/c/boundary.c is the same for C. A null or misaligned pointer is no `&mut Record`; noise in unused fields is left to the test in C.
+use linguastel::*;
+use std::array::from_fn;
+use std::mem::{align_of, size_of};
+
+// ── Records ──
+
+/// Marsaglia's generator, the same numbers in every run.
+struct Noise(u32);
+
+impl Noise {
+    fn word(&mut self) -> u32 {
+        self.0 ^= self.0 << 13;
+        self.0 ^= self.0 >> 17;
+        self.0 ^= self.0 << 5;
+        self.0
+    }
+
+    fn byte(&mut self) -> u8 {
+        (self.word() >> 24) as u8
+    }
+
+    fn bytes<const N: usize>(&mut self) -> [u8; N] {
+        from_fn(|_| self.byte())
+    }
+
+    fn task(&mut self) -> Task {
+        let [wait, object, timed, code, flags] = self.bytes();
+        Task { word: self.word(), end: self.word(), sending: self.word(), wait, object, timed, code, flags }
+    }
+
+    fn queue(&mut self) -> Queue {
+        let [head, count, capacity, defined, attribute] = self.bytes();
+        Queue { ring: Ring { words: from_fn(|_| self.word()), head, count, capacity }, defined, attribute }
+    }
+
+    fn mailbox(&mut self) -> Mailbox {
+        let [defined, attribute, highest] = self.bytes();
+        Mailbox { defined, attribute, highest }
+    }
+
+    fn chains(&mut self) -> Chains {
+        Chains { link: self.bytes(), key: self.bytes() }
+    }
+
+    fn record(&mut self) -> Record {
+        Record {
+            counter: self.word(),
+            tasks: from_fn(|_| self.task()),
+            queues: from_fn(|_| self.queue()),
+            waiting: self.chains(),
+            messages: self.chains(),
+            mailboxes: from_fn(|_| self.mailbox()),
+        }
+    }
+}
+
+fn noise() -> Noise {
+    Noise(2_463_534_242)
+}
+
+/// Task 1 waits at data queue 1 with an end tick, task 2 at mailbox 1 with none; task 3 is able; queue 2 is full and task 4 waits to send there.
+fn typical() -> Record {
+    let mut record = Record::empty();
+    for task in 1..=4 {
+        record.idefine_task(task, 10 + task);
+    }
+    record.icre_dtq(1, TA_TFIFO, 2);
+    record.icre_dtq(2, TA_TPRI, 3);
+    record.icre_mbx(1, TA_TPRI, 0);
+    record.icre_mbx(2, TA_MPRI, 9);
+    for word in 40..=43 {
+        record.ifsnd_dtq(2, word);
+    }
+    record.isnd_mbx(2, 64, 9);
+    record.isnd_mbx(2, 33, 8);
+    record.tick();
+    record.trcv_dtq(Context::task(1), 1, 7);
+    record.rcv_mbx(Context::task(2), 1);
+    record.snd_dtq(Context::task(4), 2, 44);
+    record
+}
+
+/// Refused with this code: no place, no words.
+fn refusal(code: i32) -> Answer {
+    Answer { kind: 0, code, place: 0, a: 0, b: 0, c: 0 }
+}
+
+// ── Layout and numbers ──
+
+#[test]
+fn layout() {
+    assert_eq!(library_layout(), (size_of::<Record>(), align_of::<Record>()));
+}
+
+#[test]
+fn neighbours() {
+    #[repr(C)]
+    struct Memory {
+        before: [u8; 256],
+        record: Record,
+        after: [u8; 256],
+    }
+    let mut memory = Memory { before: [0xA5; 256], record: typical(), after: [0xA5; 256] };
+    for number in 0..=24 {
+        memory.record.call(Call { value: 5, attribute: 1, ..Call::new(number, Context::task(3), 3) });
+    }
+    memory.record.tick();
+    assert!(memory.record.is_sound());
+    assert_eq!((memory.before, memory.after), ([0xA5; 256], [0xA5; 256]));
+}
+
+/// No task, object or message has such a number. As a byte, 257 and 65537 would be 1.
+const TOO_LARGE: [u32; 8] = [65, 254, 255, 256, 257, 300, 65537, u32::MAX];
+
+#[test]
+fn callers_and_objects_that_nobody_has() {
+    let mut record = typical();
+    let before = record;
+    assert_eq!(record.ref_dtq(Context::task(33), 1), refusal(E_SYS));
+    for number in TOO_LARGE {
+        assert_eq!(record.ref_dtq(Context::task(number), 1), refusal(E_SYS));
+        assert_eq!(record.ilook(number), refusal(E_ID));
+        assert_eq!(record.iref_dtq(number), refusal(E_ID));
+        assert_eq!(record.iref_mbx(number), refusal(E_ID));
+        assert_eq!(record.isnd_mbx(2, number, 1), refusal(E_PAR));
+        assert_eq!(record.icre_dtq(3, TA_TFIFO, number), refusal(E_PAR));
+        assert_eq!(record.icre_dtq(3, number, 1), refusal(E_PAR));
+        assert_eq!(record.idefine_task(5, number), refusal(E_PAR));
+    }
+    assert_eq!(record, before);
+}
+
+#[test]
+fn unknown_numbers() {
+    for start in [typical(), noise().record()] {
+        let mut record = start;
+        for number in [24, 255, 256, 257, 279, u32::MAX] {
+            assert_eq!(record.call(Call { number, caller: 77, locked: 1, ..Call::default() }), refusal(E_PAR));
+        }
+        assert_eq!(record, start);
+    }
+}
+
+#[test]
+fn locked_and_disabled_as_numbers() {
+    let mut record = typical();
+    for yes in [1, 2, 256, 65536, 1 << 31, u32::MAX] {
+        assert_eq!(record.call(Call { locked: yes, ..Call::new(number::REF_DTQ, Context::task(3), 1) }), refusal(E_CTX));
+        assert_eq!(record.call(Call { disabled: yes, ..Call::new(number::RCV_DTQ, Context::task(3), 1) }), refusal(E_CTX));
+    }
+}
+
+// ── Records that aren't sound ──
+
+/// Every call of a known number, and the tick, is refused and changes nothing.
+fn assert_unsound(start: Record, what: &str) {
+    let mut record = start;
+    assert!(!record.is_sound(), "{what}");
+    for number in 0..=number::FETCH {
+        assert_eq!(record.call(Call { value: 1, ..Call::new(number, Context::HANDLER, 1) }), refusal(E_SYS), "{what}");
+    }
+    assert_eq!(record.tick(), refusal(E_SYS), "{what}");
+    assert_eq!(record, start, "{what}");
+}
+
+#[test]
+fn random_bytes() {
+    let mut noise = noise();
+    for _ in 0..50 {
+        assert_unsound(noise.record(), "random bytes");
+    }
+}
+
+type Fault = (&'static str, fn(&mut Record));
+
+const FAULTS: [Fault; 11] = [
+    ("flags 4", |record| record.tasks[3].flags = 4),
+    ("wait 4", |record| record.tasks[3].wait = 4),
+    ("timed 2 with a wait", |record| record.tasks[1].timed = 2),
+    ("stored code 6", |record| record.tasks[3].code = 6),
+    ("data queue defined 2", |record| record.queues[7].defined = 2),
+    ("ring head 16", |record| record.queues[1].ring.head = 16),
+    ("mailbox defined 77", |record| record.mailboxes[5].defined = 77),
+    ("a message priority above the highest", |record| record.mailboxes[2].highest = 8),
+    ("task priority 17", |record| record.waiting.key[3] = 17),
+    ("an able task in a chain", |record| record.waiting.link[SENDERS + 5] = 3),
+    ("a message in two mailboxes", |record| record.messages.link[QUEUED_MESSAGES + 1] = 33),
+];
+
+#[test]
+fn records_with_one_fault() {
+    assert!(typical().is_sound());
+    for (what, spoil) in FAULTS {
+        let mut record = typical();
+        spoil(&mut record);
+        assert_unsound(record, what);
+    }
+}
+
+// ── The record as Rust sees it ──
+
+fn assert_task_view(record: &mut Record, number: u32) {
+    let task = record.tasks[number as usize];
+    let (look, fetch) = (record.ilook(number), record.ifetch(number));
+    assert_eq!((look.a, look.b, look.c), (task.wait.into(), task.object.into(), u32::from(task.flags == DEFINED | SUSPENDED)));
+    if task.wait == NO_WAIT {
+        assert_eq!((fetch.code, fetch.a), (-i32::from(task.code), task.word));
+    } else {
+        assert_eq!(fetch, refusal(E_OBJ));
+    }
+}
+
+fn assert_object_view(record: &mut Record, number: usize) {
+    let (queue, mailbox) = (record.iref_dtq(number as u32), record.iref_mbx(number as u32));
+    let heads = |chains: &Chains, first: usize| u32::from(chains.link[first + number]);
+    assert_eq!((queue.a, queue.b), (heads(&record.waiting, SENDERS), heads(&record.waiting, RECEIVERS)));
+    assert_eq!(queue.c, record.queues[number].ring.count.into());
+    assert_eq!((mailbox.a, mailbox.b), (heads(&record.waiting, WAITERS), heads(&record.messages, QUEUED_MESSAGES)));
+}
+
+#[test]
+fn view() {
+    let mut record = typical();
+    record.isus_tsk(2);
+    record.irel_wai(2);
+    for number in 1..=4 {
+        assert_task_view(&mut record, number);
+        assert_eq!(u32::from(record.waiting.key[number as usize]), 10 + number);
+    }
+    assert_object_view(&mut record, 1);
+    assert_object_view(&mut record, 2);
+    assert_eq!((record.counter, record.tasks[1].timed, record.tasks[1].end), (1, 1, 8));
+    assert_eq!((record.tasks[2].code, record.tasks[4].sending), (49, 44));
+    let ring = record.queues[2].ring;
+    let stored: Vec<u32> = (0..3).map(|place| ring.words[(usize::from(ring.head) + place) % WORDS]).collect();
+    assert_eq!((stored, ring.capacity), (vec![41, 42, 43], 3));
+    assert_eq!((record.messages.link[33], record.messages.key[33], record.messages.key[64]), (64, 8, 9));
+    assert_eq!((record.mailboxes[2].attribute, record.mailboxes[2].highest), (2, 9));
+}
+
+// ── The runs ──
+
+/// The calls in the order of their numbers.
+const NAMES: &str = "tick define_task cre_dtq del_dtq snd_dtq psnd_dtq tsnd_dtq fsnd_dtq rcv_dtq prcv_dtq trcv_dtq ref_dtq \
+    cre_mbx del_mbx snd_mbx rcv_mbx prcv_mbx trcv_mbx ref_mbx rel_wai sus_tsk rsm_tsk look fetch";
+
+fn call_by_name(record: &mut Record, call: Call) -> Answer {
+    let by = Context { caller: call.caller, locked: call.locked != 0, disabled: call.disabled != 0 };
+    let Call { object, value, attribute, tmout, .. } = call;
+    match call.number {
+        number::DEFINE_TASK => record.define_task(by, object, value),
+        number::CRE_DTQ => record.cre_dtq(by, object, attribute, value),
+        number::DEL_DTQ => record.del_dtq(by, object),
+        number::SND_DTQ => record.snd_dtq(by, object, value),
+        number::PSND_DTQ => record.psnd_dtq(by, object, value),
+        number::TSND_DTQ => record.tsnd_dtq(by, object, value, tmout),
+        number::FSND_DTQ => record.fsnd_dtq(by, object, value),
+        number::RCV_DTQ => record.rcv_dtq(by, object),
+        number::PRCV_DTQ => record.prcv_dtq(by, object),
+        number::TRCV_DTQ => record.trcv_dtq(by, object, tmout),
+        number::REF_DTQ => record.ref_dtq(by, object),
+        number::CRE_MBX => record.cre_mbx(by, object, attribute, value),
+        number::DEL_MBX => record.del_mbx(by, object),
+        number::SND_MBX => record.snd_mbx(by, object, value, attribute),
+        number::RCV_MBX => record.rcv_mbx(by, object),
+        number::PRCV_MBX => record.prcv_mbx(by, object),
+        number::TRCV_MBX => record.trcv_mbx(by, object, tmout),
+        number::REF_MBX => record.ref_mbx(by, object),
+        number::REL_WAI => record.rel_wai(by, object),
+        number::SUS_TSK => record.sus_tsk(by, object),
+        number::RSM_TSK => record.rsm_tsk(by, object),
+        number::LOOK => record.look(by, object),
+        number::FETCH => record.fetch(by, object),
+        _ => record.tick(),
+    }
+}
+
+/// The i-form, where there is one and its context is the call's; else the call by name.
+fn call_by_i_form(record: &mut Record, call: Call) -> Answer {
+    let Call { object, value, attribute, .. } = call;
+    if (call.caller, call.locked, call.disabled) != (0, 0, 0) {
+        return call_by_name(record, call);
+    }
+    match call.number {
+        number::DEFINE_TASK => record.idefine_task(object, value),
+        number::CRE_DTQ => record.icre_dtq(object, attribute, value),
+        number::PSND_DTQ => record.ipsnd_dtq(object, value),
+        number::FSND_DTQ => record.ifsnd_dtq(object, value),
+        number::PRCV_DTQ => record.iprcv_dtq(object),
+        number::REF_DTQ => record.iref_dtq(object),
+        number::CRE_MBX => record.icre_mbx(object, attribute, value),
+        number::SND_MBX => record.isnd_mbx(object, value, attribute),
+        number::PRCV_MBX => record.iprcv_mbx(object),
+        number::REF_MBX => record.iref_mbx(object),
+        number::REL_WAI => record.irel_wai(object),
+        number::SUS_TSK => record.isus_tsk(object),
+        number::RSM_TSK => record.irsm_tsk(object),
+        number::LOOK => record.ilook(object),
+        number::FETCH => record.ifetch(object),
+        _ => call_by_name(record, call),
+    }
+}
+
+fn answer_text(answer: Answer) -> String {
+    let outcome = match answer.outcome() {
+        Outcome::Finished(code) => code_name(code).to_string(),
+        Outcome::Waits(place) => format!("W{place}"),
+    };
+    format!("{outcome} {} {} {}", answer.a, answer.b, answer.c)
+}
+
+fn play_line(record: &mut Record, way: Way, fields: &[&str]) {
+    let number = |field: usize| fields[field].parse().unwrap();
+    match fields[3] {
+        "from" => record.counter = number(5),
+        "leaves" => assert_eq!(record.counter, number(5)),
+        name => {
+            let call = Call {
+                number: NAMES.split(' ').position(|known| known == name).unwrap() as u32,
+                caller: number(1),
+                locked: u32::from(fields[2] == "L"),
+                disabled: u32::from(fields[2] == "D"),
+                object: number(4),
+                value: number(5),
+                attribute: number(6),
+                tmout: fields[7].parse().unwrap(),
+            };
+            let before = *record;
+            let answer = way(record, call);
+            assert_eq!(answer_text(answer), fields[8..].join(" "), "{call:?}");
+            assert!(answer.code == E_OK || *record == before, "{call:?}");
+        }
+    }
+}
+
+type Way = fn(&mut Record, Call) -> Answer;
+
+/// The text has this many runs beside run 0.
+fn play(text: &str, runs: &str) {
+    for way in [Record::call as Way, call_by_name, call_by_i_form] {
+        let mut start = Record::empty();
+        let (mut run, mut record) = ("0", start);
+        for line in text.lines().filter(|line| !line.is_empty() && !line.starts_with('#')) {
+            let fields: Vec<&str> = line.split_whitespace().collect();
+            if fields[0] != run {
+                (run, record) = (fields[0], start);
+            }
+            play_line(if run == "0" { &mut start } else { &mut record }, way, &fields);
+        }
+        assert_eq!(run, runs);
+    }
+}
+
+#[test]
+fn sixteen_runs() {
+    play(include_str!("../../runs/sixteen_runs.txt"), "16");
+}
+
+#[test]
+fn each_call() {
+    play(include_str!("../../runs/each_call.txt"), "5");
+}
+
+#[test]
+fn error_table() {
+    play(include_str!("../../runs/error_table.txt"), "11");
+}
