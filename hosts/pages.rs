@@ -90,16 +90,26 @@ impl fmt::Display for Answer {
     }
 }
 
+// An outcome with its cause, as far as the call and the damage done to the record tell it; else the cause is empty.
+#[derive(Clone, Copy, PartialEq, Eq, PartialOrd, Ord)]
+struct Sight {
+    outcome: Outcome,
+    cause: &'static str,
+}
+
 // What was seen of each call: what it answered, and the codes that its waits ended with. The entry behind the calls is for unknown numbers.
+#[derive(Default)]
 struct Seen {
-    answers: [BTreeSet<Outcome>; CALLS.len() + 1],
+    calls: usize,
+    answers: [BTreeSet<Sight>; CALLS.len() + 1],
     ends: [BTreeSet<Outcome>; CALLS.len() + 1],
 }
 
-// A record, and for each task the call that its last wait came from.
+// A record, whether damage was done to it, and for each task the call that its last wait came from.
 #[derive(Clone, Copy)]
 struct Kernel {
     record: HostRecord,
+    damaged: bool,
     waited_by: [Option<usize>; 33],
 }
 
@@ -107,24 +117,38 @@ impl Kernel {
     fn empty() -> Kernel {
         let mut record = HostRecord { bytes: [0; RECORD_BYTES] };
         unsafe { linguastel_empty(&mut record) };
-        Kernel { record, waited_by: [None; 33] }
+        Kernel { record, damaged: false, waited_by: [None; 33] }
     }
 
     fn call(&mut self, call: HostCall, seen: &mut Seen) -> Answer {
         let answer = Answer::of(unsafe { linguastel_call(&mut self.record, call) });
         let number = CALLS.len().min(call.number as usize);
-        seen.answers[number].insert(answer.outcome);
+        seen.calls += 1;
+        seen.answers[number].insert(self.sight(&call, answer.outcome));
         if let Some(task) = self.waited_by.get_mut(call.caller as usize).filter(|_| answer.outcome == Outcome::Waits) {
             *task = Some(number);
         }
-        if let Some(starter) = self.starter(call).filter(|_| is_end(answer.outcome)) {
+        if let Some(starter) = self.starter(&call).filter(|_| is_end(answer.outcome)) {
             seen.ends[starter].insert(answer.outcome);
         }
         answer
     }
 
+    fn sight(&self, call: &HostCall, outcome: Outcome) -> Sight {
+        let cause = match outcome {
+            E_SYS if self.damaged => "the record",
+            E_SYS => "the caller",
+            E_CTX if call.locked != 0 => "locked",
+            E_CTX if call.caller == 0 => "caller 0",
+            E_CTX => "disabled",
+            E_PAR => outside(call),
+            _ => "",
+        };
+        Sight { outcome, cause }
+    }
+
     // Of a fetch: the call that the fetched wait came from.
-    fn starter(&self, call: HostCall) -> Option<usize> {
+    fn starter(&self, call: &HostCall) -> Option<usize> {
         if call.number as usize != FETCH {
             return None;
         }
@@ -137,6 +161,7 @@ impl Kernel {
 
     fn damage(&mut self) {
         self.record.bytes = [255; RECORD_BYTES];
+        self.damaged = true;
     }
 }
 
@@ -199,6 +224,10 @@ const CODES: [(&str, i32); 12] = [
     ("E_DLT", -51),
 ];
 
+const E_SYS: Outcome = Outcome::Code(-5);
+const E_PAR: Outcome = Outcome::Code(-17);
+const E_CTX: Outcome = Outcome::Code(-25);
+
 // The error table's steps in order, each with its code; the dash is for accepted calls.
 const STEPS: [(&str, &str); 11] = [
     ("0", "E_PAR"),
@@ -228,6 +257,19 @@ fn can_refuse(step: &str, call: usize) -> bool {
         "6d" => call == 7,
         "7" => [5, 6, 9, 10, 16, 17].contains(&call),
         _ => false,
+    }
+}
+
+// The parameter that is out of range, where a call has several that can be.
+fn outside(call: &HostCall) -> &'static str {
+    match call.number {
+        2 if call.attribute > 1 => "attribute",
+        2 => "capacity",
+        12 if call.attribute > 3 => "attribute",
+        12 => "highest",
+        14 if !(1..=64).contains(&call.value) => "message",
+        14 => "priority",
+        _ => "",
     }
 }
 
@@ -475,8 +517,16 @@ struct Check {
     // The state that every example starts from.
     setting: Kernel,
     seen: Seen,
+    // What the examples in each call's table of checks show.
+    shown: [BTreeSet<Sight>; CALLS.len()],
     examples: usize,
     differ: usize,
+}
+
+// An example's last call, and the kernel after it.
+struct Played {
+    call: HostCall,
+    kernel: Kernel,
 }
 
 impl Check {
@@ -491,39 +541,50 @@ impl Check {
         }
     }
 
-    // Plays an example from a table and compares its last answer. Gives its last call and the kernel after it.
-    fn play_example(&mut self, outcome: Outcome, text: &str) -> Result<(HostCall, Kernel), String> {
+    // Plays an example from a table. All steps but the last have to be accepted; the last has to give the expected answer.
+    fn play_example(&mut self, outcome: Outcome, text: &str) -> Result<Played, String> {
         let (steps, words) = text.split_once("->").unwrap_or((text, ""));
         let expected = answer_of(outcome, words)?;
         let steps = steps.split(';').map(step_of).collect::<Result<Vec<Step>, String>>()?;
+        let Some((Step::Call(call), before)) = steps.split_last() else {
+            return Err("the last step is no call".to_string());
+        };
         let mut kernel = self.setting;
-        let mut last = None;
-        for step in &steps {
-            last = play(&mut kernel, step, &mut self.seen);
+        for step in before {
+            let answer = play(&mut kernel, step, &mut self.seen);
+            if answer.is_some_and(|answer| ![Outcome::Waits, Outcome::Code(0)].contains(&answer.outcome)) {
+                return Err("a step before the last isn't accepted".to_string());
+            }
         }
-        match (steps.last(), last) {
-            (Some(Step::Call(call)), Some(answer)) if answer == expected => Ok((*call, kernel)),
-            (_, Some(answer)) => Err(format!("the kernel gives {answer}")),
-            _ => Err("the last step is no call".to_string()),
+        let answer = kernel.call(*call, &mut self.seen);
+        if answer == expected {
+            Ok(Played { call: *call, kernel })
+        } else {
+            Err(format!("the kernel gives {answer}"))
         }
     }
 
-    // Plays the examples of a row. `fits` says whether the last call and the kernel after it belong to the row's section.
-    fn play_row(&mut self, page: &Page, row: &(usize, Vec<String>), fits: impl Fn(HostCall, Kernel) -> bool) {
+    // Plays the examples of a row, and hands out those that give what they should.
+    fn play_row(&mut self, page: &Page, row: &(usize, Vec<String>)) -> Vec<Played> {
         let (at, cells) = row;
+        let mut played = vec![];
         let outcome = match outcome_in_cell(&cells[1]) {
             Ok(outcome) => outcome,
-            Err(what) => return self.differs(page, *at, &what),
+            Err(what) => {
+                self.differs(page, *at, &what);
+                return played;
+            }
         };
         let examples = quoted(&cells[3]);
         self.expect(!examples.is_empty(), page, *at, "the row has no example");
         for example in examples {
             self.examples += 1;
             match self.play_example(outcome, example) {
-                Ok((call, kernel)) => self.expect(fits(call, kernel), page, *at, &format!("'{example}' is no example of this row's call")),
+                Ok(one) => played.push(one),
                 Err(what) => self.differs(page, *at, &format!("'{example}': {what}")),
             }
         }
+        played
     }
 
     // Plays a worked example, in which every call has its answer behind an arrow.
@@ -613,10 +674,15 @@ impl Check {
         self.check_order(page, checks, |outcome| can_accept(call, outcome));
         self.check_steps(page, section.at, checks, |step| can_refuse(step, call));
         for row in &checks.rows {
-            self.play_row(page, row, |last, _| last.number as usize == call);
+            let played = self.play_row(page, row);
+            self.expect(played.iter().all(|one| one.call.number as usize == call), page, row.0, "an example is one of another call");
+            self.shown[call]
+                .extend(played.iter().map(|one| one.kernel.sight(&one.call, outcome_in_cell(&row.1[1]).expect("it was played"))));
         }
         for row in section.table(&ENDS).map_or(&[][..], |table| &table.rows) {
-            self.play_row(page, row, |last, kernel| kernel.starter(last) == Some(call));
+            let played = self.play_row(page, row);
+            let right = played.iter().all(|one| one.kernel.starter(&one.call) == Some(call));
+            self.expect(right, page, row.0, "an example doesn't fetch the end of this call's wait");
         }
         self.expect(section.blocks.iter().any(|block| block.kind == "calls"), page, section.at, "the worked example is missing");
     }
@@ -626,7 +692,7 @@ impl Check {
         self.check_order(page, table, |_| false);
         self.check_steps(page, at, table, |_| true);
         for row in &table.rows {
-            self.play_row(page, row, |_, _| true);
+            self.play_row(page, row);
         }
     }
 
@@ -685,12 +751,22 @@ impl Check {
         }
     }
 
+    // Every cause that was seen has an example.
+    fn compare_causes(&mut self, page: &Page, at: usize, call: usize) {
+        let missing: Vec<Sight> = self.seen.answers[call].difference(&self.shown[call]).copied().collect();
+        for sight in missing.iter().filter(|sight| !sight.cause.is_empty()) {
+            self.differs(page, at, &format!("it gives {} by {}, and no example shows it", sight.outcome, sight.cause));
+        }
+    }
+
     fn compare_page(&mut self, page: &Page) {
         for section in &page.sections {
             if let Some((call, _)) = section.call().filter(|(call, _)| *call < CALLS.len()) {
-                let (answers, ends) = (self.seen.answers[call].clone(), self.seen.ends[call].clone());
+                let answers = self.seen.answers[call].iter().map(|sight| sight.outcome).collect();
+                let ends = self.seen.ends[call].clone();
                 self.compare(page, section.at, section.table(&CHECKS), &answers, "gives");
                 self.compare(page, section.at, section.table(&ENDS), &ends, "waits until");
+                self.compare_causes(page, section.at, call);
             }
         }
     }
@@ -769,19 +845,24 @@ fn random_call(random: &mut Random) -> HostCall {
     }
 }
 
-// Every other round starts from the empty state, the rest from the examples' setting. At times a call gets a damaged record.
+// Every other round starts from the empty state, the rest from the examples' setting. At times a call gets a damaged record first, and at times
+// a fetch follows it, so that the ends of waits are seen.
 fn play_at_random(check: &mut Check) {
     let mut random = Random { state: 1 };
     for round in 0..ROUNDS {
         let mut kernel = if round % 2 == 0 { check.setting } else { Kernel::empty() };
         for _ in 0..ROUND {
             let call = random_call(&mut random);
-            if random.one_in(100) {
+            if random.one_in(50) {
                 let mut damaged = kernel;
                 damaged.damage();
                 damaged.call(call, &mut check.seen);
             }
             kernel.call(call, &mut check.seen);
+            if random.one_in(4) {
+                let object = random_object(&mut random);
+                kernel.call(HostCall { number: FETCH as u32, object, ..HostCall::default() }, &mut check.seen);
+            }
         }
     }
 }
@@ -816,7 +897,7 @@ fn differences(pages: &[Page], seen: &Seen) -> Vec<String> {
         .filter(|header| tables(header) != 1)
         .map(|header| format!("the common table '{}' isn't there once", header.join(" | ")));
     let mut found: Vec<String> = wrong_calls.chain(wrong_tables).collect();
-    if seen.answers[CALLS.len()] != BTreeSet::from([Outcome::Code(-17)]) {
+    if seen.answers[CALLS.len()].iter().any(|sight| sight.outcome != E_PAR) {
         found.push("unknown numbers give another answer than E_PAR".to_string());
     }
     found
@@ -827,10 +908,11 @@ fn run(folder: &str) -> Result<bool, String> {
         return Err(format!("the library's record doesn't have {RECORD_BYTES} bytes"));
     }
     let pages = read_pages(folder)?;
-    let mut seen = Seen { answers: Default::default(), ends: Default::default() };
+    let mut seen = Seen::default();
     let setting = setting_of(&pages, &mut seen)?;
-    let mut check = Check { setting, seen, examples: 0, differ: 0 };
+    let mut check = Check { setting, seen, shown: Default::default(), examples: 0, differ: 0 };
     play_at_random(&mut check);
+    println!("{} calls drawn at random", check.seen.calls);
     let played: Vec<usize> = pages.iter().map(|page| check.check_page(page)).collect();
     for (page, examples) in pages.iter().zip(played) {
         check.compare_page(page);
@@ -840,7 +922,6 @@ fn run(folder: &str) -> Result<bool, String> {
         println!("{folder}: {what}");
         check.differ += 1;
     }
-    println!("{} calls at random", ROUNDS * ROUND);
     println!("pages: {} examples, {} differ", check.examples, check.differ);
     Ok(check.differ == 0)
 }
