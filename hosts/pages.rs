@@ -523,9 +523,10 @@ struct Check {
     differ: usize,
 }
 
-// An example's last call, and the kernel after it.
+// An example's last call, what it showed, and the kernel after it.
 struct Played {
     call: HostCall,
+    sight: Sight,
     kernel: Kernel,
 }
 
@@ -558,7 +559,7 @@ impl Check {
         }
         let answer = kernel.call(*call, &mut self.seen);
         if answer == expected {
-            Ok(Played { call: *call, kernel })
+            Ok(Played { call: *call, sight: kernel.sight(call, outcome), kernel })
         } else {
             Err(format!("the kernel gives {answer}"))
         }
@@ -661,6 +662,22 @@ impl Check {
         self.expect(fields == row.fields, page, section.at, &format!("the parameters' fields are {}", row.fields.join(", ")));
     }
 
+    fn play_checks(&mut self, page: &Page, checks: &Table, call: usize) {
+        for row in &checks.rows {
+            let played = self.play_row(page, row);
+            self.expect(played.iter().all(|one| one.call.number as usize == call), page, row.0, "an example is one of another call");
+            self.shown[call].extend(played.iter().map(|one| one.sight));
+        }
+    }
+
+    fn play_ends(&mut self, page: &Page, ends: &Table, call: usize) {
+        for row in &ends.rows {
+            let played = self.play_row(page, row);
+            let right = played.iter().all(|one| one.kernel.starter(&one.call) == Some(call));
+            self.expect(right, page, row.0, "an example doesn't fetch the end of this call's wait");
+        }
+    }
+
     // A call's section: all but which codes were seen.
     fn check_call(&mut self, page: &Page, section: &Section, call: usize, name: &str) {
         let Some(row) = CALLS.get(call).filter(|row| row.name == name && page.file.ends_with(row.page)) else {
@@ -668,23 +685,16 @@ impl Check {
         };
         self.check_names(page, section, row);
         self.check_parameters(page, section, row);
+        self.expect(section.blocks.iter().any(|block| block.kind == "calls"), page, section.at, "the worked example is missing");
         let Some(checks) = section.table(&CHECKS) else {
             return self.differs(page, section.at, "the table of checks is missing");
         };
         self.check_order(page, checks, |outcome| can_accept(call, outcome));
         self.check_steps(page, section.at, checks, |step| can_refuse(step, call));
-        for row in &checks.rows {
-            let played = self.play_row(page, row);
-            self.expect(played.iter().all(|one| one.call.number as usize == call), page, row.0, "an example is one of another call");
-            self.shown[call]
-                .extend(played.iter().map(|one| one.kernel.sight(&one.call, outcome_in_cell(&row.1[1]).expect("it was played"))));
+        self.play_checks(page, checks, call);
+        if let Some(ends) = section.table(&ENDS) {
+            self.play_ends(page, ends, call);
         }
-        for row in section.table(&ENDS).map_or(&[][..], |table| &table.rows) {
-            let played = self.play_row(page, row);
-            let right = played.iter().all(|one| one.kernel.starter(&one.call) == Some(call));
-            self.expect(right, page, row.0, "an example doesn't fetch the end of this call's wait");
-        }
-        self.expect(section.blocks.iter().any(|block| block.kind == "calls"), page, section.at, "the worked example is missing");
     }
 
     // The table of checks that all calls share: every step, and no accepted call.
