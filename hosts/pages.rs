@@ -1,0 +1,949 @@
+// Holds the reference pages, docs/calls/*.md, against the built kernel, so that neither changes without the other.
+// `pages [FOLDER]` plays every example of the pages, compares names, numbers and the order of rows with document 01's tables, and plays calls
+// drawn at random to see which codes each call gives. It prints a line for each difference, with file and line, and one for each page. It fails
+// where anything differs. docs/calls/README.md has the examples' notation.
+use std::collections::BTreeSet;
+use std::fmt;
+use std::fs;
+use std::process::exit;
+
+// ── The kernel, as the static library exports it ──
+
+const RECORD_BYTES: usize = 2232;
+
+// The fields of crates/host_parts.
+#[repr(C)]
+#[derive(Clone, Copy, Default)]
+struct HostCall {
+    number: u32,
+    caller: u32,
+    locked: u32,
+    disabled: u32,
+    object: u32,
+    value: u32,
+    tmout: i32,
+    attribute: u32,
+}
+
+#[repr(C)]
+struct HostAnswer {
+    kind: u32,
+    code: i32,
+    place: u32,
+    a: u32,
+    b: u32,
+    c: u32,
+}
+
+// Only its first four bytes, the tick counter, are known here (crates/host_record).
+#[repr(C, align(4))]
+#[derive(Clone, Copy)]
+struct HostRecord {
+    bytes: [u8; RECORD_BYTES],
+}
+
+extern "C" {
+    fn linguastel_record_size() -> usize;
+    fn linguastel_empty(record: &mut HostRecord);
+    fn linguastel_call(record: &mut HostRecord, call: HostCall) -> HostAnswer;
+}
+
+#[derive(Clone, Copy, PartialEq, Eq, PartialOrd, Ord)]
+enum Outcome {
+    Code(i32),
+    Waits,
+}
+
+#[derive(Clone, Copy, PartialEq)]
+struct Answer {
+    outcome: Outcome,
+    place: u32,
+    words: [u32; 3],
+}
+
+impl Answer {
+    fn of(answer: HostAnswer) -> Answer {
+        let outcome = match answer.kind {
+            0 => Outcome::Code(answer.code),
+            _ => Outcome::Waits,
+        };
+        Answer { outcome, place: answer.place, words: [answer.a, answer.b, answer.c] }
+    }
+}
+
+impl fmt::Display for Outcome {
+    fn fmt(&self, f: &mut fmt::Formatter) -> fmt::Result {
+        match self {
+            Outcome::Waits => write!(f, "waits"),
+            Outcome::Code(number) => match CODES.iter().find(|code| code.1 == *number) {
+                Some(code) => write!(f, "{}", code.0),
+                None => write!(f, "the unknown code {number}"),
+            },
+        }
+    }
+}
+
+impl fmt::Display for Answer {
+    fn fmt(&self, f: &mut fmt::Formatter) -> fmt::Result {
+        let [a, b, c] = self.words;
+        write!(f, "{} place {} a {a} b {b} c {c}", self.outcome, self.place)
+    }
+}
+
+// An outcome with its cause, as far as the call and the damage done to the record tell it; else the cause is empty.
+#[derive(Clone, Copy, PartialEq, Eq, PartialOrd, Ord)]
+struct Sight {
+    outcome: Outcome,
+    cause: &'static str,
+}
+
+// What was seen of each call: what it answered, and the codes that its waits ended with. The entry behind the calls is for unknown numbers.
+#[derive(Default)]
+struct Seen {
+    calls: usize,
+    answers: [BTreeSet<Sight>; CALLS.len() + 1],
+    ends: [BTreeSet<Outcome>; CALLS.len() + 1],
+}
+
+// A record, whether damage was done to it, and for each task the call that its last wait came from.
+#[derive(Clone, Copy)]
+struct Kernel {
+    record: HostRecord,
+    damaged: bool,
+    waited_by: [Option<usize>; 33],
+}
+
+impl Kernel {
+    fn empty() -> Kernel {
+        let mut record = HostRecord { bytes: [0; RECORD_BYTES] };
+        unsafe { linguastel_empty(&mut record) };
+        Kernel { record, damaged: false, waited_by: [None; 33] }
+    }
+
+    fn call(&mut self, call: HostCall, seen: &mut Seen) -> Answer {
+        let answer = Answer::of(unsafe { linguastel_call(&mut self.record, call) });
+        let number = CALLS.len().min(call.number as usize);
+        seen.calls += 1;
+        seen.answers[number].insert(self.sight(&call, answer.outcome));
+        if let Some(task) = self.waited_by.get_mut(call.caller as usize).filter(|_| answer.outcome == Outcome::Waits) {
+            *task = Some(number);
+        }
+        if let Some(starter) = self.starter(&call).filter(|_| is_end(answer.outcome)) {
+            seen.ends[starter].insert(answer.outcome);
+        }
+        answer
+    }
+
+    fn sight(&self, call: &HostCall, outcome: Outcome) -> Sight {
+        let cause = match outcome {
+            E_SYS if self.damaged => "the record",
+            E_SYS => "the caller",
+            E_CTX if call.locked != 0 => "locked",
+            E_CTX if call.caller == 0 => "caller 0",
+            E_CTX => "disabled",
+            E_PAR => outside(call),
+            _ => "",
+        };
+        Sight { outcome, cause }
+    }
+
+    // Of a fetch: the call that the fetched wait came from.
+    fn starter(&self, call: &HostCall) -> Option<usize> {
+        if call.number as usize != FETCH {
+            return None;
+        }
+        *self.waited_by.get(call.object as usize)?
+    }
+
+    fn set_counter(&mut self, counter: u32) {
+        self.record.bytes[..4].copy_from_slice(&counter.to_ne_bytes());
+    }
+
+    fn damage(&mut self) {
+        self.record.bytes = [255; RECORD_BYTES];
+        self.damaged = true;
+    }
+}
+
+// ── Document 01's tables ──
+
+struct CallRow {
+    name: &'static str,
+    page: &'static str,
+    // The fields that hold the parameters, in the order in which the pages name them.
+    fields: &'static [&'static str],
+    // Whether caller 0 may make the call.
+    i_form: bool,
+}
+
+const fn call_row(page: &'static str, name: &'static str, fields: &'static [&'static str], i_form: bool) -> CallRow {
+    CallRow { name, page, fields, i_form }
+}
+
+const FETCH: usize = 23;
+
+const CALLS: [CallRow; 24] = [
+    call_row("tick.md", "tick", &[], false),
+    call_row("tasks.md", "define_task", &["object", "value"], true),
+    call_row("data-queues.md", "cre_dtq", &["object", "attribute", "value"], true),
+    call_row("data-queues.md", "del_dtq", &["object"], false),
+    call_row("data-queues.md", "snd_dtq", &["object", "value"], false),
+    call_row("data-queues.md", "psnd_dtq", &["object", "value"], true),
+    call_row("data-queues.md", "tsnd_dtq", &["object", "value", "tmout"], false),
+    call_row("data-queues.md", "fsnd_dtq", &["object", "value"], true),
+    call_row("data-queues.md", "rcv_dtq", &["object"], false),
+    call_row("data-queues.md", "prcv_dtq", &["object"], true),
+    call_row("data-queues.md", "trcv_dtq", &["object", "tmout"], false),
+    call_row("data-queues.md", "ref_dtq", &["object"], true),
+    call_row("mailboxes.md", "cre_mbx", &["object", "attribute", "value"], true),
+    call_row("mailboxes.md", "del_mbx", &["object"], false),
+    call_row("mailboxes.md", "snd_mbx", &["object", "value", "attribute"], true),
+    call_row("mailboxes.md", "rcv_mbx", &["object"], false),
+    call_row("mailboxes.md", "prcv_mbx", &["object"], true),
+    call_row("mailboxes.md", "trcv_mbx", &["object", "tmout"], false),
+    call_row("mailboxes.md", "ref_mbx", &["object"], true),
+    call_row("tasks.md", "rel_wai", &["object"], true),
+    call_row("tasks.md", "sus_tsk", &["object"], true),
+    call_row("tasks.md", "rsm_tsk", &["object"], true),
+    call_row("tasks.md", "look", &["object"], true),
+    call_row("tasks.md", "fetch", &["object"], true),
+];
+
+const CODES: [(&str, i32); 12] = [
+    ("E_OK", 0),
+    ("E_SYS", -5),
+    ("E_PAR", -17),
+    ("E_ID", -18),
+    ("E_CTX", -25),
+    ("E_ILUSE", -28),
+    ("E_OBJ", -41),
+    ("E_NOEXS", -42),
+    ("E_QOVR", -43),
+    ("E_RLWAI", -49),
+    ("E_TMOUT", -50),
+    ("E_DLT", -51),
+];
+
+const E_SYS: Outcome = Outcome::Code(-5);
+const E_PAR: Outcome = Outcome::Code(-17);
+const E_CTX: Outcome = Outcome::Code(-25);
+
+// The error table's steps in order, each with its code; the dash is for accepted calls.
+const STEPS: [(&str, &str); 11] = [
+    ("0", "E_PAR"),
+    ("1", "E_SYS"),
+    ("2", "E_CTX"),
+    ("3", "E_ID"),
+    ("4", "E_PAR"),
+    ("5", "E_NOEXS"),
+    ("6a", "E_PAR"),
+    ("6b", "E_OBJ"),
+    ("6c", "E_QOVR"),
+    ("6d", "E_ILUSE"),
+    ("7", "E_TMOUT"),
+];
+
+const ACCEPTED: &str = "-";
+
+fn can_refuse(step: &str, call: usize) -> bool {
+    match step {
+        "1" => true,
+        "2" | "3" => call != 0,
+        "4" => [1, 2, 6, 10, 12, 14, 17].contains(&call),
+        "5" => ![0, 1, 2, 12].contains(&call),
+        "6a" => call == 14,
+        "6b" => [1, 2, 12, 14, 19, 21, 23].contains(&call),
+        "6c" => call == 20,
+        "6d" => call == 7,
+        "7" => [5, 6, 9, 10, 16, 17].contains(&call),
+        _ => false,
+    }
+}
+
+// The parameter that is out of range, where a call has several that can be.
+fn outside(call: &HostCall) -> &'static str {
+    match call.number {
+        2 if call.attribute > 1 => "attribute",
+        2 => "capacity",
+        12 if call.attribute > 3 => "attribute",
+        12 => "highest",
+        14 if !(1..=64).contains(&call.value) => "message",
+        14 => "priority",
+        _ => "",
+    }
+}
+
+// Whether a wait can end with this; also what fetch gives where it isn't refused.
+fn is_end(outcome: Outcome) -> bool {
+    [0, -49, -50, -51].map(Outcome::Code).contains(&outcome)
+}
+
+fn can_accept(call: usize, outcome: Outcome) -> bool {
+    match outcome {
+        Outcome::Waits => [4, 6, 8, 10, 15, 17].contains(&call),
+        Outcome::Code(0) => true,
+        Outcome::Code(_) => call == FETCH && is_end(outcome),
+    }
+}
+
+// 'E_OK', or 'waits'.
+fn outcome_named(name: &str) -> Result<Outcome, String> {
+    if name == "waits" {
+        return Ok(Outcome::Waits);
+    }
+    let code = CODES.iter().find(|code| code.0 == name);
+    code.map(|code| Outcome::Code(code.1)).ok_or(format!("there is no code '{name}'"))
+}
+
+// 'E_SYS -5', or 'waits'.
+fn outcome_in_cell(cell: &str) -> Result<Outcome, String> {
+    let (name, number) = cell.split_once(' ').unwrap_or((cell, ""));
+    let outcome = outcome_named(name)?;
+    let right = match outcome {
+        Outcome::Code(code) => number == code.to_string(),
+        Outcome::Waits => number.is_empty(),
+    };
+    if right {
+        Ok(outcome)
+    } else {
+        Err(format!("'{number}' isn't the number of {name}"))
+    }
+}
+
+// ── The examples' notation ──
+
+enum Step {
+    Call(HostCall),
+    Counter(u32),
+    Damage,
+}
+
+fn parsed<N: std::str::FromStr>(word: &str) -> Result<N, String> {
+    word.parse().map_err(|_| format!("'{word}' isn't a number that fits"))
+}
+
+fn set_field(call: &mut HostCall, field: &str, word: &str) -> Result<(), String> {
+    match field {
+        "object" => call.object = parsed(word)?,
+        "value" => call.value = parsed(word)?,
+        "attribute" => call.attribute = parsed(word)?,
+        _ => call.tmout = parsed(word)?,
+    }
+    Ok(())
+}
+
+// 'snd_dtq 1 10', or 'call 24'.
+fn set_call(call: &mut HostCall, words: &[&str]) -> Result<(), String> {
+    let (name, parameters) = words.split_first().ok_or("a step has no call")?;
+    if let ["call", word] = words {
+        call.number = parsed(word)?;
+        return Ok(());
+    }
+    let row = CALLS.iter().position(|row| row.name == *name && row.name != "tick");
+    let row = row.ok_or(format!("there is no call '{name}'"))?;
+    call.number = row as u32;
+    let fields = CALLS[row].fields;
+    if parameters.len() != fields.len() {
+        return Err(format!("'{name}' has {} parameters", fields.len()));
+    }
+    fields.iter().zip(parameters).try_for_each(|(field, word)| set_field(call, field, word))
+}
+
+// 'T1 locked snd_dtq 1 10'.
+fn call_by(caller: &str, words: &[&str]) -> Result<HostCall, String> {
+    let caller = match caller.strip_prefix('T') {
+        Some(task) => parsed(task)?,
+        None if caller == "H" => 0,
+        None => return Err(format!("there is no caller '{caller}'")),
+    };
+    let count = words.iter().take_while(|word| ["locked", "disabled"].contains(word)).count();
+    let (marks, rest) = words.split_at(count);
+    let marked = |mark: &str| u32::from(marks.contains(&mark));
+    let mut call = HostCall { caller, locked: marked("locked"), disabled: marked("disabled"), ..HostCall::default() };
+    set_call(&mut call, rest)?;
+    Ok(call)
+}
+
+fn step_of(text: &str) -> Result<Step, String> {
+    let words: Vec<&str> = text.split_whitespace().collect();
+    match words[..] {
+        [] => Err("a step is empty".to_string()),
+        ["tick"] => Ok(Step::Call(HostCall::default())),
+        ["damage"] => Ok(Step::Damage),
+        ["counter", counter] => Ok(Step::Counter(parsed(counter)?)),
+        _ => Ok(Step::Call(call_by(words[0], &words[1..])?)),
+    }
+}
+
+// 'a 10 c 1', or 'place 1'.
+fn answer_of(outcome: Outcome, text: &str) -> Result<Answer, String> {
+    let mut answer = Answer { outcome, place: 0, words: [0; 3] };
+    let words: Vec<&str> = text.split_whitespace().collect();
+    for pair in words.chunks(2) {
+        match (outcome, pair) {
+            (Outcome::Waits, ["place", place]) => answer.place = parsed(place)?,
+            (Outcome::Code(_), ["a", word]) => answer.words[0] = parsed(word)?,
+            (Outcome::Code(_), ["b", word]) => answer.words[1] = parsed(word)?,
+            (Outcome::Code(_), ["c", word]) => answer.words[2] = parsed(word)?,
+            _ => return Err(format!("'{text}' doesn't fit the answer '{outcome}'")),
+        }
+    }
+    if outcome == Outcome::Waits && words.is_empty() {
+        return Err("the place isn't stated".to_string());
+    }
+    Ok(answer)
+}
+
+// Plays one step; a call gives its answer.
+fn play(kernel: &mut Kernel, step: &Step, seen: &mut Seen) -> Option<Answer> {
+    match step {
+        Step::Call(call) => return Some(kernel.call(*call, seen)),
+        Step::Counter(counter) => kernel.set_counter(*counter),
+        Step::Damage => kernel.damage(),
+    }
+    None
+}
+
+// ── Reading a page ──
+
+// A line of a page with its number.
+struct Line {
+    at: usize,
+    text: String,
+}
+
+struct Table {
+    header: Vec<String>,
+    rows: Vec<(usize, Vec<String>)>,
+}
+
+// What stands between two fences, with the word behind the first.
+struct Block {
+    kind: String,
+    lines: Vec<Line>,
+}
+
+// What follows a heading of the second level.
+struct Section {
+    at: usize,
+    title: String,
+    text: Vec<Line>,
+    tables: Vec<Table>,
+    blocks: Vec<Block>,
+}
+
+struct Page {
+    file: String,
+    sections: Vec<Section>,
+}
+
+impl Section {
+    fn new(at: usize, title: &str) -> Section {
+        Section { at, title: title.to_string(), text: vec![], tables: vec![], blocks: vec![] }
+    }
+
+    fn table(&self, header: &[&str]) -> Option<&Table> {
+        self.tables.iter().find(|table| table.header == header)
+    }
+
+    // '4 snd_dtq' is a call's title.
+    fn call(&self) -> Option<(usize, &str)> {
+        let (number, name) = self.title.split_once(' ')?;
+        Some((number.parse().ok()?, name))
+    }
+
+    // A row of a table; the first two are its header and the rule below it. A cell that is missing is empty.
+    fn add_row(&mut self, at: usize, text: &str, first: bool) {
+        let mut cells: Vec<String> = text.trim_matches('|').split('|').map(|cell| cell.trim().to_string()).collect();
+        if first {
+            self.tables.push(Table { header: cells, rows: vec![] });
+        } else if let Some(table) = self.tables.last_mut().filter(|_| !text.starts_with("|---")) {
+            cells.resize(table.header.len(), String::new());
+            table.rows.push((at, cells));
+        }
+    }
+}
+
+fn page_of(file: &str, text: &str) -> Page {
+    let mut sections = vec![Section::new(1, "")];
+    let (mut in_block, mut in_table) = (false, false);
+    for (index, line) in text.lines().enumerate() {
+        let at = index + 1;
+        let section = sections.last_mut().expect("there is always one");
+        let is_row = !in_block && line.starts_with('|');
+        if let Some(kind) = line.strip_prefix("```") {
+            in_block = !in_block;
+            if in_block {
+                section.blocks.push(Block { kind: kind.to_string(), lines: vec![] });
+            }
+        } else if in_block {
+            let lines = &mut section.blocks.last_mut().expect("a block was begun").lines;
+            lines.push(Line { at, text: line.to_string() });
+        } else if let Some(title) = line.strip_prefix("## ") {
+            sections.push(Section::new(at, title));
+        } else if is_row {
+            section.add_row(at, line, !in_table);
+        } else {
+            section.text.push(Line { at, text: line.to_string() });
+        }
+        in_table = is_row;
+    }
+    Page { file: file.to_string(), sections }
+}
+
+// What stands between backticks.
+fn quoted(text: &str) -> Vec<&str> {
+    text.split('`').skip(1).step_by(2).collect()
+}
+
+fn read_pages(folder: &str) -> Result<Vec<Page>, String> {
+    let entries = fs::read_dir(folder).map_err(|error| format!("{folder}: {error}"))?;
+    let mut files: Vec<String> =
+        entries.flatten().map(|entry| entry.path().display().to_string()).filter(|path| path.ends_with(".md")).collect();
+    files.sort();
+    let read = |file: &String| fs::read_to_string(file).map(|text| page_of(file, &text)).map_err(|error| format!("{file}: {error}"));
+    files.iter().map(read).collect()
+}
+
+// ── The check ──
+
+const CHECKS: [&str; 4] = ["Step", "Code", "When", "Example"];
+const ENDS: [&str; 4] = ["The wait ends by", "Code", "Word", "Example"];
+const PARAMETERS: [&str; 3] = ["Parameter", "Field", "Values"];
+const CODE_LIST: [&str; 3] = ["Code", "Number", "Meaning"];
+const CALL_LIST: [&str; 3] = ["No.", "Call", "Page"];
+
+struct Check {
+    // The state that every example starts from.
+    setting: Kernel,
+    seen: Seen,
+    // What the examples in each call's table of checks show.
+    shown: [BTreeSet<Sight>; CALLS.len()],
+    examples: usize,
+    differ: usize,
+}
+
+// An example's last call, what it showed, and the kernel after it.
+struct Played {
+    call: HostCall,
+    sight: Sight,
+    kernel: Kernel,
+}
+
+impl Check {
+    fn differs(&mut self, page: &Page, at: usize, what: &str) {
+        println!("{}:{at}: {what}", page.file);
+        self.differ += 1;
+    }
+
+    fn expect(&mut self, right: bool, page: &Page, at: usize, what: &str) {
+        if !right {
+            self.differs(page, at, what);
+        }
+    }
+
+    // Plays an example from a table. All steps but the last have to be accepted; the last has to give the expected answer.
+    fn play_example(&mut self, outcome: Outcome, text: &str) -> Result<Played, String> {
+        let (steps, words) = text.split_once("->").unwrap_or((text, ""));
+        let expected = answer_of(outcome, words)?;
+        let steps = steps.split(';').map(step_of).collect::<Result<Vec<Step>, String>>()?;
+        let Some((Step::Call(call), before)) = steps.split_last() else {
+            return Err("the last step is no call".to_string());
+        };
+        let mut kernel = self.setting;
+        for step in before {
+            let answer = play(&mut kernel, step, &mut self.seen);
+            if answer.is_some_and(|answer| ![Outcome::Waits, Outcome::Code(0)].contains(&answer.outcome)) {
+                return Err("a step before the last isn't accepted".to_string());
+            }
+        }
+        let answer = kernel.call(*call, &mut self.seen);
+        if answer == expected {
+            Ok(Played { call: *call, sight: kernel.sight(call, outcome), kernel })
+        } else {
+            Err(format!("the kernel gives {answer}"))
+        }
+    }
+
+    // Plays the examples of a row, and hands out those that give what they should.
+    fn play_row(&mut self, page: &Page, row: &(usize, Vec<String>)) -> Vec<Played> {
+        let (at, cells) = row;
+        let mut played = vec![];
+        let outcome = match outcome_in_cell(&cells[1]) {
+            Ok(outcome) => outcome,
+            Err(what) => {
+                self.differs(page, *at, &what);
+                return played;
+            }
+        };
+        let examples = quoted(&cells[3]);
+        self.expect(!examples.is_empty(), page, *at, "the row has no example");
+        for example in examples {
+            self.examples += 1;
+            match self.play_example(outcome, example) {
+                Ok(one) => played.push(one),
+                Err(what) => self.differs(page, *at, &format!("'{example}': {what}")),
+            }
+        }
+        played
+    }
+
+    // Plays a worked example, in which every call has its answer behind an arrow.
+    fn play_block(&mut self, page: &Page, block: &Block) {
+        let mut kernel = self.setting;
+        self.examples += 1;
+        for line in &block.lines {
+            if let Err(what) = self.play_line(&mut kernel, &line.text) {
+                self.differs(page, line.at, &format!("'{}': {what}", line.text));
+            }
+        }
+    }
+
+    fn play_line(&mut self, kernel: &mut Kernel, text: &str) -> Result<(), String> {
+        let (step, answer) = match text.split_once(" -> ") {
+            Some((step, answer)) => (step, Some(answer)),
+            None => (text, None),
+        };
+        let given = play(kernel, &step_of(step)?, &mut self.seen);
+        let expected = answer.map(|answer| {
+            let (name, words) = answer.split_once(' ').unwrap_or((answer, ""));
+            answer_of(outcome_named(name)?, words)
+        });
+        match (given, expected.transpose()?) {
+            (None, None) => Ok(()),
+            (Some(given), Some(expected)) if given == expected => Ok(()),
+            (Some(given), _) => Err(format!("the kernel gives {given}")),
+            (None, Some(_)) => Err("the step is no call".to_string()),
+        }
+    }
+
+    // The rows of a table of checks stand in the steps' order, each with its step's code.
+    fn check_order(&mut self, page: &Page, table: &Table, accepts: impl Fn(Outcome) -> bool) {
+        let mut reached = 0;
+        for (at, cells) in &table.rows {
+            let (step, code) = (cells[0].as_str(), cells[1].as_str());
+            let place = if step == ACCEPTED { Some(STEPS.len()) } else { STEPS.iter().position(|row| row.0 == step) };
+            let Some(place) = place else {
+                self.differs(page, *at, &format!("there is no step '{step}'"));
+                continue;
+            };
+            self.expect(reached <= place, page, *at, "the row comes after a later step");
+            reached = place;
+            let right = match STEPS.get(place) {
+                Some(row) => code.split(' ').next() == Some(row.1),
+                None => outcome_in_cell(code).is_ok_and(&accepts),
+            };
+            self.expect(right, page, *at, &format!("step {step} doesn't give '{code}' here"));
+        }
+    }
+
+    // The steps that are on the page are those that can refuse the call.
+    fn check_steps(&mut self, page: &Page, at: usize, table: &Table, can_refuse: impl Fn(&str) -> bool) {
+        for (step, _) in STEPS {
+            let written = table.rows.iter().any(|row| row.1[0] == step);
+            let what = if written { "the call has no such step" } else { "the step is missing" };
+            self.expect(written == can_refuse(step), page, at, &format!("step {step}: {what}"));
+        }
+    }
+
+    fn check_names(&mut self, page: &Page, section: &Section, row: &CallRow) {
+        let name = row.name;
+        let forms = if row.i_form { vec![name.to_string(), format!("i{name}")] } else { vec![name.to_string()] };
+        let expected: Vec<String> = forms.iter().map(|form| format!("linguastel_{form}")).chain(forms.iter().cloned()).collect();
+        match section.text.iter().find(|line| line.text.starts_with("Names:")) {
+            Some(line) => self.expect(quoted(&line.text) == expected, page, line.at, &format!("the names are {}", expected.join(", "))),
+            None => self.differs(page, section.at, "the line 'Names:' is missing"),
+        }
+    }
+
+    fn check_parameters(&mut self, page: &Page, section: &Section, row: &CallRow) {
+        let rows = section.table(&PARAMETERS).map_or(&[][..], |table| &table.rows);
+        let fields: Vec<&str> = rows.iter().flat_map(|row| quoted(&row.1[1])).collect();
+        self.expect(fields == row.fields, page, section.at, &format!("the parameters' fields are {}", row.fields.join(", ")));
+    }
+
+    fn play_checks(&mut self, page: &Page, checks: &Table, call: usize) {
+        for row in &checks.rows {
+            let played = self.play_row(page, row);
+            self.expect(played.iter().all(|one| one.call.number as usize == call), page, row.0, "an example is one of another call");
+            self.shown[call].extend(played.iter().map(|one| one.sight));
+        }
+    }
+
+    fn play_ends(&mut self, page: &Page, ends: &Table, call: usize) {
+        for row in &ends.rows {
+            let played = self.play_row(page, row);
+            let right = played.iter().all(|one| one.kernel.starter(&one.call) == Some(call));
+            self.expect(right, page, row.0, "an example doesn't fetch the end of this call's wait");
+        }
+    }
+
+    // A call's section: all but which codes were seen.
+    fn check_call(&mut self, page: &Page, section: &Section, call: usize, name: &str) {
+        let Some(row) = CALLS.get(call).filter(|row| row.name == name && page.file.ends_with(row.page)) else {
+            return self.differs(page, section.at, "no call with this number and name belongs on this page");
+        };
+        self.check_names(page, section, row);
+        self.check_parameters(page, section, row);
+        self.expect(section.blocks.iter().any(|block| block.kind == "calls"), page, section.at, "the worked example is missing");
+        let Some(checks) = section.table(&CHECKS) else {
+            return self.differs(page, section.at, "the table of checks is missing");
+        };
+        self.check_order(page, checks, |outcome| can_accept(call, outcome));
+        self.check_steps(page, section.at, checks, |step| can_refuse(step, call));
+        self.play_checks(page, checks, call);
+        if let Some(ends) = section.table(&ENDS) {
+            self.play_ends(page, ends, call);
+        }
+    }
+
+    // The table of checks that all calls share: every step, and no accepted call.
+    fn check_table(&mut self, page: &Page, at: usize, table: &Table) {
+        self.check_order(page, table, |_| false);
+        self.check_steps(page, at, table, |_| true);
+        for row in &table.rows {
+            self.play_row(page, row);
+        }
+    }
+
+    fn check_codes(&mut self, page: &Page, at: usize, table: &Table) {
+        let right = CODES.map(|code| [code.0.to_string(), code.1.to_string()]);
+        let written: Vec<&[String]> = table.rows.iter().map(|row| &row.1[..2]).collect();
+        self.expect(written == right, page, at, "the codes and numbers aren't document 01's");
+    }
+
+    fn check_call_list(&mut self, page: &Page, at: usize, table: &Table) {
+        let line = |(call, row): (usize, &CallRow)| {
+            let (name, file) = (row.name, row.page);
+            vec![call.to_string(), format!("`{name}`"), format!("[{file}]({file}#{call}-{name})")]
+        };
+        let right = CALLS.iter().enumerate().map(line);
+        self.expect(table.rows.iter().map(|row| row.1.clone()).eq(right), page, at, "the calls, names and links aren't those of the pages");
+    }
+
+    // A section that belongs to no call.
+    fn check_common(&mut self, page: &Page, section: &Section) {
+        for table in &section.tables {
+            if table.header == CHECKS {
+                self.check_table(page, section.at, table);
+            } else if table.header == CODE_LIST {
+                self.check_codes(page, section.at, table);
+            } else if table.header == CALL_LIST {
+                self.check_call_list(page, section.at, table);
+            }
+        }
+    }
+
+    // All but which codes were seen. Gives the number of examples.
+    fn check_page(&mut self, page: &Page) -> usize {
+        let before = self.examples;
+        for section in &page.sections {
+            match section.call() {
+                Some((call, name)) => self.check_call(page, section, call, name),
+                None => self.check_common(page, section),
+            }
+            for block in section.blocks.iter().filter(|block| block.kind == "calls") {
+                self.play_block(page, block);
+            }
+        }
+        self.examples - before
+    }
+
+    // Compares what a table has with what was seen.
+    fn compare(&mut self, page: &Page, at: usize, table: Option<&Table>, seen: &BTreeSet<Outcome>, verb: &str) {
+        let rows = table.map_or(&[][..], |table| &table.rows);
+        let written: BTreeSet<Outcome> = rows.iter().flat_map(|row| outcome_in_cell(&row.1[1])).collect();
+        for outcome in seen.difference(&written) {
+            self.differs(page, at, &format!("it {verb} {outcome}, which isn't on the page"));
+        }
+        for outcome in written.difference(seen) {
+            self.differs(page, at, &format!("it was never seen that it {verb} {outcome}"));
+        }
+    }
+
+    // Every cause that was seen has an example.
+    fn compare_causes(&mut self, page: &Page, at: usize, call: usize) {
+        let missing: Vec<Sight> = self.seen.answers[call].difference(&self.shown[call]).copied().collect();
+        for sight in missing.iter().filter(|sight| !sight.cause.is_empty()) {
+            self.differs(page, at, &format!("it gives {} by {}, and no example shows it", sight.outcome, sight.cause));
+        }
+    }
+
+    fn compare_page(&mut self, page: &Page) {
+        for section in &page.sections {
+            if let Some((call, _)) = section.call().filter(|(call, _)| *call < CALLS.len()) {
+                let answers = self.seen.answers[call].iter().map(|sight| sight.outcome).collect();
+                let ends = self.seen.ends[call].clone();
+                self.compare(page, section.at, section.table(&CHECKS), &answers, "gives");
+                self.compare(page, section.at, section.table(&ENDS), &ends, "waits until");
+                self.compare_causes(page, section.at, call);
+            }
+        }
+    }
+}
+
+// ── Calls drawn at random ──
+
+const ROUNDS: usize = 1000;
+const ROUND: usize = 400;
+
+// The generator splitmix64.
+struct Random {
+    state: u64,
+}
+
+impl Random {
+    fn draw(&mut self) -> u64 {
+        self.state = self.state.wrapping_add(0x9e37_79b9_7f4a_7c15);
+        let x = (self.state ^ (self.state >> 30)).wrapping_mul(0xbf58_476d_1ce4_e5b9);
+        let x = (x ^ (x >> 27)).wrapping_mul(0x94d0_49bb_1331_11eb);
+        x ^ (x >> 31)
+    }
+
+    fn below(&mut self, limit: u64) -> u32 {
+        (self.draw() % limit) as u32
+    }
+
+    fn one_in(&mut self, count: u64) -> bool {
+        self.below(count) == 0
+    }
+
+    fn of<T: Copy>(&mut self, list: &[T]) -> T {
+        list[self.below(list.len() as u64) as usize]
+    }
+}
+
+fn random_number(random: &mut Random) -> u32 {
+    if random.one_in(64) {
+        return random.of(&[24, 25, 255, 256, u32::MAX]);
+    }
+    if random.one_in(8) {
+        return 0;
+    }
+    random.below(CALLS.len() as u64)
+}
+
+// Few numbers, so that calls meet; at times others, valid or not.
+fn random_object(random: &mut Random) -> u32 {
+    if random.one_in(8) {
+        return random.of(&[0, 7, 15, 16, 17, 31, 32, 33, 255, 256, u32::MAX]);
+    }
+    random.of(&[1, 1, 1, 2, 2, 2, 3, 3, 4, 5, 6])
+}
+
+fn random_value(random: &mut Random, number: u32) -> u32 {
+    match number {
+        1 => random.of(&[0, 1, 3, 5, 16, 17, u32::MAX]),
+        2 => random.of(&[0, 0, 1, 2, 16, 17, u32::MAX]),
+        12 => random.of(&[0, 1, 4, 16, 17, u32::MAX]),
+        14 => random.of(&[0, 1, 2, 3, 4, 5, 63, 64, 65, u32::MAX]),
+        _ => random.draw() as u32,
+    }
+}
+
+fn random_call(random: &mut Random) -> HostCall {
+    let number = random_number(random);
+    HostCall {
+        number,
+        caller: if random.one_in(3) { 0 } else { random_object(random) },
+        locked: u32::from(random.one_in(16)),
+        disabled: u32::from(random.one_in(16)),
+        object: random_object(random),
+        value: random_value(random, number),
+        tmout: random.of(&[i32::MIN, -2, -1, 0, 1, 1, 2, 2, 3, 1000, 2_147_483_646, i32::MAX]),
+        attribute: random.of(&[0, 0, 1, 1, 2, 2, 3, 3, 4, 5, 16, 17, u32::MAX]),
+    }
+}
+
+// Every other round starts from the empty state, the rest from the examples' setting. At times a call gets a damaged record first, and at times
+// a fetch follows it, so that the ends of waits are seen.
+fn play_at_random(check: &mut Check) {
+    let mut random = Random { state: 1 };
+    for round in 0..ROUNDS {
+        let mut kernel = if round % 2 == 0 { check.setting } else { Kernel::empty() };
+        for _ in 0..ROUND {
+            let call = random_call(&mut random);
+            if random.one_in(50) {
+                let mut damaged = kernel;
+                damaged.damage();
+                damaged.call(call, &mut check.seen);
+            }
+            kernel.call(call, &mut check.seen);
+            if random.one_in(4) {
+                let object = random_object(&mut random);
+                kernel.call(HostCall { number: FETCH as u32, object, ..HostCall::default() }, &mut check.seen);
+            }
+        }
+    }
+}
+
+// ── The program ──
+
+// The setting stands in a block of README.md.
+fn setting_of(pages: &[Page], seen: &mut Seen) -> Result<Kernel, String> {
+    let blocks = pages.iter().flat_map(|page| &page.sections).flat_map(|section| &section.blocks);
+    let block = blocks.into_iter().find(|block| block.kind == "setting").ok_or("no page has the setting")?;
+    let mut kernel = Kernel::empty();
+    for line in &block.lines {
+        let answer = play(&mut kernel, &step_of(&line.text)?, seen);
+        if answer.map(|answer| answer.outcome) != Some(Outcome::Code(0)) {
+            return Err(format!("the setting's '{}' isn't accepted", line.text));
+        }
+    }
+    Ok(kernel)
+}
+
+// What differs on no page in particular: each call has one section, each common table is there once, and an unknown number gives E_PAR alone.
+fn differences(pages: &[Page], seen: &Seen) -> Vec<String> {
+    let (calls, common): (Vec<&Section>, Vec<&Section>) =
+        pages.iter().flat_map(|page| &page.sections).partition(|section| section.call().is_some());
+    let sections = |call: usize| calls.iter().filter(|section| section.call().is_some_and(|found| found.0 == call)).count();
+    let tables = |header: &[&str]| common.iter().filter(|section| section.table(header).is_some()).count();
+    let wrong_calls =
+        (0..CALLS.len()).filter(|call| sections(*call) != 1).map(|call| format!("call {call} has {} sections", sections(call)));
+    let headers = [&CHECKS[..], &CODE_LIST[..], &CALL_LIST[..]];
+    let wrong_tables = headers
+        .iter()
+        .filter(|header| tables(header) != 1)
+        .map(|header| format!("the common table '{}' isn't there once", header.join(" | ")));
+    let mut found: Vec<String> = wrong_calls.chain(wrong_tables).collect();
+    if seen.answers[CALLS.len()].iter().any(|sight| sight.outcome != E_PAR) {
+        found.push("unknown numbers give another answer than E_PAR".to_string());
+    }
+    found
+}
+
+fn run(folder: &str) -> Result<bool, String> {
+    if unsafe { linguastel_record_size() } != RECORD_BYTES {
+        return Err(format!("the library's record doesn't have {RECORD_BYTES} bytes"));
+    }
+    let pages = read_pages(folder)?;
+    let mut seen = Seen::default();
+    let setting = setting_of(&pages, &mut seen)?;
+    let mut check = Check { setting, seen, shown: Default::default(), examples: 0, differ: 0 };
+    play_at_random(&mut check);
+    println!("{} calls drawn at random", check.seen.calls);
+    let played: Vec<usize> = pages.iter().map(|page| check.check_page(page)).collect();
+    for (page, examples) in pages.iter().zip(played) {
+        check.compare_page(page);
+        println!("{}: {examples} examples", page.file);
+    }
+    for what in differences(&pages, &check.seen) {
+        println!("{folder}: {what}");
+        check.differ += 1;
+    }
+    println!("pages: {} examples, {} differ", check.examples, check.differ);
+    Ok(check.differ == 0)
+}
+
+fn main() {
+    let folder = std::env::args().nth(1).unwrap_or("docs/calls".to_string());
+    match run(&folder) {
+        Ok(true) => {}
+        Ok(false) => exit(1),
+        Err(what) => {
+            eprintln!("{what}");
+            exit(1)
+        }
+    }
+}
