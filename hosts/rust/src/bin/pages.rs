@@ -1,52 +1,15 @@
 // Holds the reference pages, docs/calls/*.md, against the built kernel, so that neither changes without the other.
-// `pages [FOLDER]` plays every example of the pages, compares names, numbers and the order of rows with document 01's tables, and plays calls
-// drawn at random to see which codes each call gives. It prints a line for each difference, with file and line, and one for each page. It fails
-// where anything differs. docs/calls/README.md has the examples' notation.
+// `pages [FOLDER]` plays every example of the pages, compares names, numbers and the order of rows with document 01's tables and with the header
+// and the wrapper, and plays calls drawn at random to see which codes each call gives. It prints a line for each difference, with file and line,
+// and one for each page. It fails where anything differs. docs/calls/README.md has the examples' notation.
 use std::collections::BTreeSet;
 use std::fmt;
 use std::fs;
 use std::process::exit;
 
-// ── The kernel, as the static library exports it ──
+use linguastel::{Call, Record};
 
-const RECORD_BYTES: usize = 2232;
-
-// The fields of crates/host_parts.
-#[repr(C)]
-#[derive(Clone, Copy, Default)]
-struct HostCall {
-    number: u32,
-    caller: u32,
-    locked: u32,
-    disabled: u32,
-    object: u32,
-    value: u32,
-    tmout: i32,
-    attribute: u32,
-}
-
-#[repr(C)]
-struct HostAnswer {
-    kind: u32,
-    code: i32,
-    place: u32,
-    a: u32,
-    b: u32,
-    c: u32,
-}
-
-// Only its first four bytes, the tick counter, are known here (crates/host_record).
-#[repr(C, align(4))]
-#[derive(Clone, Copy)]
-struct HostRecord {
-    bytes: [u8; RECORD_BYTES],
-}
-
-extern "C" {
-    fn linguastel_record_size() -> usize;
-    fn linguastel_empty(record: &mut HostRecord);
-    fn linguastel_call(record: &mut HostRecord, call: HostCall) -> HostAnswer;
-}
+// ── The kernel ──
 
 #[derive(Clone, Copy, PartialEq, Eq, PartialOrd, Ord)]
 enum Outcome {
@@ -62,7 +25,7 @@ struct Answer {
 }
 
 impl Answer {
-    fn of(answer: HostAnswer) -> Answer {
+    fn of(answer: linguastel::Answer) -> Answer {
         let outcome = match answer.kind {
             0 => Outcome::Code(answer.code),
             _ => Outcome::Waits,
@@ -108,20 +71,18 @@ struct Seen {
 // A record, whether damage was done to it, and for each task the call that its last wait came from.
 #[derive(Clone, Copy)]
 struct Kernel {
-    record: HostRecord,
+    record: Record,
     damaged: bool,
     waited_by: [Option<usize>; 33],
 }
 
 impl Kernel {
     fn empty() -> Kernel {
-        let mut record = HostRecord { bytes: [0; RECORD_BYTES] };
-        unsafe { linguastel_empty(&mut record) };
-        Kernel { record, damaged: false, waited_by: [None; 33] }
+        Kernel { record: Record::empty(), damaged: false, waited_by: [None; 33] }
     }
 
-    fn call(&mut self, call: HostCall, seen: &mut Seen) -> Answer {
-        let answer = Answer::of(unsafe { linguastel_call(&mut self.record, call) });
+    fn call(&mut self, call: Call, seen: &mut Seen) -> Answer {
+        let answer = Answer::of(self.record.call(call));
         let number = CALLS.len().min(call.number as usize);
         seen.calls += 1;
         seen.answers[number].insert(self.sight(&call, answer.outcome));
@@ -134,7 +95,7 @@ impl Kernel {
         answer
     }
 
-    fn sight(&self, call: &HostCall, outcome: Outcome) -> Sight {
+    fn sight(&self, call: &Call, outcome: Outcome) -> Sight {
         let cause = match outcome {
             E_SYS if self.damaged => "the record",
             E_SYS => "the caller",
@@ -148,19 +109,16 @@ impl Kernel {
     }
 
     // Of a fetch: the call that the fetched wait came from.
-    fn starter(&self, call: &HostCall) -> Option<usize> {
+    fn starter(&self, call: &Call) -> Option<usize> {
         if call.number as usize != FETCH {
             return None;
         }
         *self.waited_by.get(call.object as usize)?
     }
 
-    fn set_counter(&mut self, counter: u32) {
-        self.record.bytes[..4].copy_from_slice(&counter.to_ne_bytes());
-    }
-
+    // The chains of tasks lead to numbers that no task has.
     fn damage(&mut self) {
-        self.record.bytes = [255; RECORD_BYTES];
+        self.record.waiting.link.fill(255);
         self.damaged = true;
     }
 }
@@ -261,7 +219,7 @@ fn can_refuse(step: &str, call: usize) -> bool {
 }
 
 // The parameter that is out of range, where a call has several that can be.
-fn outside(call: &HostCall) -> &'static str {
+fn outside(call: &Call) -> &'static str {
     match call.number {
         2 if call.attribute > 1 => "attribute",
         2 => "capacity",
@@ -313,7 +271,7 @@ fn outcome_in_cell(cell: &str) -> Result<Outcome, String> {
 // ── The examples' notation ──
 
 enum Step {
-    Call(HostCall),
+    Call(Call),
     Counter(u32),
     Damage,
 }
@@ -322,7 +280,7 @@ fn parsed<N: std::str::FromStr>(word: &str) -> Result<N, String> {
     word.parse().map_err(|_| format!("'{word}' isn't a number that fits"))
 }
 
-fn set_field(call: &mut HostCall, field: &str, word: &str) -> Result<(), String> {
+fn set_field(call: &mut Call, field: &str, word: &str) -> Result<(), String> {
     match field {
         "object" => call.object = parsed(word)?,
         "value" => call.value = parsed(word)?,
@@ -333,7 +291,7 @@ fn set_field(call: &mut HostCall, field: &str, word: &str) -> Result<(), String>
 }
 
 // 'snd_dtq 1 10', or 'call 24'.
-fn set_call(call: &mut HostCall, words: &[&str]) -> Result<(), String> {
+fn set_call(call: &mut Call, words: &[&str]) -> Result<(), String> {
     let (name, parameters) = words.split_first().ok_or("a step has no call")?;
     if let ["call", word] = words {
         call.number = parsed(word)?;
@@ -350,7 +308,7 @@ fn set_call(call: &mut HostCall, words: &[&str]) -> Result<(), String> {
 }
 
 // 'T1 locked snd_dtq 1 10'.
-fn call_by(caller: &str, words: &[&str]) -> Result<HostCall, String> {
+fn call_by(caller: &str, words: &[&str]) -> Result<Call, String> {
     let caller = match caller.strip_prefix('T') {
         Some(task) => parsed(task)?,
         None if caller == "H" => 0,
@@ -359,7 +317,7 @@ fn call_by(caller: &str, words: &[&str]) -> Result<HostCall, String> {
     let count = words.iter().take_while(|word| ["locked", "disabled"].contains(word)).count();
     let (marks, rest) = words.split_at(count);
     let marked = |mark: &str| u32::from(marks.contains(&mark));
-    let mut call = HostCall { caller, locked: marked("locked"), disabled: marked("disabled"), ..HostCall::default() };
+    let mut call = Call { caller, locked: marked("locked"), disabled: marked("disabled"), ..Call::default() };
     set_call(&mut call, rest)?;
     Ok(call)
 }
@@ -368,7 +326,7 @@ fn step_of(text: &str) -> Result<Step, String> {
     let words: Vec<&str> = text.split_whitespace().collect();
     match words[..] {
         [] => Err("a step is empty".to_string()),
-        ["tick"] => Ok(Step::Call(HostCall::default())),
+        ["tick"] => Ok(Step::Call(Call::default())),
         ["damage"] => Ok(Step::Damage),
         ["counter", counter] => Ok(Step::Counter(parsed(counter)?)),
         _ => Ok(Step::Call(call_by(words[0], &words[1..])?)),
@@ -398,7 +356,7 @@ fn answer_of(outcome: Outcome, text: &str) -> Result<Answer, String> {
 fn play(kernel: &mut Kernel, step: &Step, seen: &mut Seen) -> Option<Answer> {
     match step {
         Step::Call(call) => return Some(kernel.call(*call, seen)),
-        Step::Counter(counter) => kernel.set_counter(*counter),
+        Step::Counter(counter) => kernel.record.counter = *counter,
         Step::Damage => kernel.damage(),
     }
     None
@@ -514,6 +472,8 @@ const CODE_LIST: [&str; 3] = ["Code", "Number", "Meaning"];
 const CALL_LIST: [&str; 3] = ["No.", "Call", "Page"];
 
 struct Check {
+    // The functions' names in the header and in the wrapper.
+    declared: BTreeSet<String>,
     // The state that every example starts from.
     setting: Kernel,
     seen: Seen,
@@ -525,7 +485,7 @@ struct Check {
 
 // An example's last call, what it showed, and the kernel after it.
 struct Played {
-    call: HostCall,
+    call: Call,
     sight: Sight,
     kernel: Kernel,
 }
@@ -650,6 +610,9 @@ impl Check {
         let name = row.name;
         let forms = if row.i_form { vec![name.to_string(), format!("i{name}")] } else { vec![name.to_string()] };
         let expected: Vec<String> = forms.iter().map(|form| format!("linguastel_{form}")).chain(forms.iter().cloned()).collect();
+        for one in expected.iter().filter(|one| !self.declared.contains(*one)).cloned().collect::<Vec<String>>() {
+            self.differs(page, section.at, &format!("neither the header nor the wrapper has {one}"));
+        }
         match section.text.iter().find(|line| line.text.starts_with("Names:")) {
             Some(line) => self.expect(quoted(&line.text) == expected, page, line.at, &format!("the names are {}", expected.join(", "))),
             None => self.differs(page, section.at, "the line 'Names:' is missing"),
@@ -841,9 +804,9 @@ fn random_value(random: &mut Random, number: u32) -> u32 {
     }
 }
 
-fn random_call(random: &mut Random) -> HostCall {
+fn random_call(random: &mut Random) -> Call {
     let number = random_number(random);
-    HostCall {
+    Call {
         number,
         caller: if random.one_in(3) { 0 } else { random_object(random) },
         locked: u32::from(random.one_in(16)),
@@ -871,7 +834,7 @@ fn play_at_random(check: &mut Check) {
             kernel.call(call, &mut check.seen);
             if random.one_in(4) {
                 let object = random_object(&mut random);
-                kernel.call(HostCall { number: FETCH as u32, object, ..HostCall::default() }, &mut check.seen);
+                kernel.call(Call { number: FETCH as u32, object, ..Call::default() }, &mut check.seen);
             }
         }
     }
@@ -913,14 +876,20 @@ fn differences(pages: &[Page], seen: &Seen) -> Vec<String> {
     found
 }
 
+// The functions that hosts call: those of the header, and the wrapper's methods.
+fn declared() -> BTreeSet<String> {
+    let header = include_str!("../../../c/linguastel.h");
+    let wrapper = include_str!("../lib.rs");
+    let in_c = header.split("LinguastelAnswer ").skip(1);
+    let in_rust = wrapper.split("pub fn ").skip(1);
+    in_c.chain(in_rust).filter_map(|text| text.split_once('(')).map(|(name, _)| name.to_string()).collect()
+}
+
 fn run(folder: &str) -> Result<bool, String> {
-    if unsafe { linguastel_record_size() } != RECORD_BYTES {
-        return Err(format!("the library's record doesn't have {RECORD_BYTES} bytes"));
-    }
     let pages = read_pages(folder)?;
     let mut seen = Seen::default();
     let setting = setting_of(&pages, &mut seen)?;
-    let mut check = Check { setting, seen, shown: Default::default(), examples: 0, differ: 0 };
+    let mut check = Check { declared: declared(), setting, seen, shown: Default::default(), examples: 0, differ: 0 };
     play_at_random(&mut check);
     println!("{} calls drawn at random", check.seen.calls);
     let played: Vec<usize> = pages.iter().map(|page| check.check_page(page)).collect();
