@@ -24,7 +24,7 @@ use Rattle.host_record.specs.Record.{HostSound, meaning}
 abbrev pub tick-call : HostCall
 tick-call = record { number = 0; caller = 0; locked = 0; disabled = 0; object = 0; value = 0; tmout = pos 0; attribute = 0 }
 
--- Whether a step leaves every byte of the record as it is: fetch, number 23, changes nothing, and any other call that answers a code but E_OK is refused.
+-- Whether a step leaves every field of the record as it is: fetch, number 23, changes nothing, and any other call that answers a code but E_OK is refused.
 abbrev pub refuses : Outcome → Bool
 refuses (Finished code) = not (is-ok code)
 refuses (Waits place) = false
@@ -32,11 +32,11 @@ refuses (Waits place) = false
 abbrev pub keeps : ℕ → Outcome → Bool
 keeps number outcome = cond (eqb number 23) true (refuses outcome)
 
--- The call is refused: this code with no words, and the very record, its unused bytes too.
+-- The call is refused: this code with no words, and the very record, its unused fields too.
 abbrev pub host-refusal : Code → HostRecord → HostStep
 host-refusal code r = record { state = r; answer = answer-of (finished code 0 0 0) }
 
--- Answer and state are the definition's, and the new record is sound. A refused call leaves every byte as it was. What else the new record holds is free (crate record, Meaning.antt), and so are
+-- Answer and state are the definition's, and the new record is sound. A refused call leaves every field as it was. What else the new record holds is free (crate record, Meaning.antt), and so are
 -- the numbers that a task's wait doesn't use.
 pub record HostFollows (r : HostRecord) (c : HostCall) (x : HostStep) : Type 0 where
   pub answer-is : x .answer ≡ answer-of (step (meaning r) (call-of c) .answer)
@@ -44,7 +44,7 @@ pub record HostFollows (r : HostRecord) (c : HostCall) (x : HostStep) : Type 0 w
   pub sound : HostSound (x .state)
   pub unchanged : T (not (eqb (c .number) 0)) → T (refused true (view-of (meaning r .rows) (call-of c)) (call-of c)) → x .state ≡ r
 
--- A step of any record, whatever its bytes, with any call.
+-- A step of any record, whatever its numbers, with any call.
 pub record HostStepped (r : HostRecord) (c : HostCall) (x : HostStep) : Type 0 where
   pub unknown : call-limit < c .number → x ≡ host-refusal E-PAR r
   pub unsound : c .number ≤ call-limit → (HostSound r → ⊥) → x ≡ host-refusal E-SYS r

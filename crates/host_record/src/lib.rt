@@ -16,8 +16,7 @@ use kernel::Kernel;
 use model::Outcome;
 use record::State;
 
-// Cell n belongs to number n, as in `State`. The bytes come last, so that the record has no gaps but one byte at its end, one after each ring
-// and those behind a task's and a queue's last byte.
+// Cell n belongs to number n, as in `State`. What is made of words comes before what is made of bytes, so that C leaves no gap between two fields.
 #[repr(C)]
 pub struct HostRecord {
     pub counter: u32,
@@ -53,7 +52,7 @@ fn record_of(state: State) -> HostRecord
     }
 }
 
-// The state that the record holds, whatever its bytes are.
+// The state that the record holds, whatever its numbers are.
 fn state_of(lent: HostRecord) -> State
     ensures { λ r. ⌜ r ≡ state-of lent ⌝ }
 {
@@ -72,7 +71,7 @@ fn state_of(lent: HostRecord) -> State
     }
 }
 
-// Whether the record is to stay as it is, its unused bytes too: the call is refused, or it is fetch, whose code may be that of an ended wait.
+// Whether the record is to stay as it is, its unused fields too: the call is refused, or it is fetch, whose code may be that of an ended wait.
 fn keeps(number: u8, outcome: Outcome) -> bool
     ensures { λ r. ⌜ r ≡ keeps number outcome ⌝ }
 {
@@ -93,7 +92,7 @@ impl HostRecord {
         record_of(State::empty())
     }
 
-    // Whether the record is sound, whatever its bytes are.
+    // Whether the record is sound, whatever its numbers are.
     pub fn sound(self) -> bool
         ensures { λ r. ⌜ Whether (HostSound self) r ⌝ }
     {
