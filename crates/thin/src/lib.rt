@@ -1,0 +1,1 @@
+// How a thin entry is proved, once for all types: in proofs/. No code.
