@@ -50,15 +50,17 @@ IsolatedFromEmpty =
 
 -- ── Any number of carriers ──
 
--- `MergeOf same-owner lists turns`: the turns, each an owner with a call, hold the owners' lists, each in its own order, and nothing else. `share same-owner i` is what of the turns is owner i's.
-pub record AllUndisturbed {I : Type 0} (same-owner : Discrete I) (s : State) (lists : I → List Call) : Type 0 where
-  pub answers-alone : {turns : List (I × Call)} → MergeOf same-owner lists turns
-      → {last : State} {answers : List (I × Answer)} → RunOfTurns s turns last answers
-      → (i : I) {i-last : State} {i-answers : List Answer} → Run s (lists i) i-last i-answers
+-- `MergeOf same-owner lists turns`: the turns, each an owner with a call, hold the owners' lists, each in its own order, and nothing else. `share same-owner i` is what of the turns is owner i's. As above, one claim
+-- however the record is handed on.
+pub record AllUndisturbed {I S C A : Type 0} (same-owner : Discrete I) (Run : S → List C → S → List A → Type 0) (RunOfTurns : S → List (I × C) → S → List (I × A) → Type 0) (Same : S → S → Type 0)
+    (s : S) (lists : I → List C) : Type 0 where
+  pub answers-alone : {turns : List (I × C)} → MergeOf same-owner lists turns
+      → {last : S} {answers : List (I × A)} → RunOfTurns s turns last answers
+      → (i : I) {i-last : S} {i-answers : List A} → Run s (lists i) i-last i-answers
       → share same-owner i answers ≡ i-answers
-  pub one-end : {turns turns′ : List (I × Call)} → MergeOf same-owner lists turns → MergeOf same-owner lists turns′
-      → {last last′ : State} {answers answers′ : List (I × Answer)}
-      → RunOfTurns s turns last answers → RunOfTurns s turns′ last′ answers′ → SameState last last′
+  pub one-end : {turns turns′ : List (I × C)} → MergeOf same-owner lists turns → MergeOf same-owner lists turns′
+      → {last last′ : S} {answers answers′ : List (I × A)}
+      → RunOfTurns s turns last answers → RunOfTurns s turns′ last′ answers′ → Same last last′
 
 -- Each number has one owner. An owner without calls need not be placed.
 abbrev pub IsolatedMany : Type 1
@@ -67,4 +69,4 @@ IsolatedMany =
     → (o : Owners I) (lists : I → List Call)
     → ((i : I) → (lists i ≡ [] → ⊥) → Placed (OwnedBy o i) (abs s .rows))
     → ((i : I) → Each (CallOf (OwnedBy o i)) (lists i))
-    → AllUndisturbed same-owner s lists
+    → AllUndisturbed same-owner Run RunOfTurns SameState s lists

@@ -5,18 +5,24 @@ use Rattle.model.specs.declared.Answer.{Answer}
 use Rattle.model.specs.declared.Call.{Call}
 use Rattle.record.specs.declared.State.{State}
 use Rattle.demands.specs.Runs as Runs
-use Rattle.demands.specs.Runs.{Run}
+use Rattle.demands.specs.Runs.{Run, RunOfTurns}
+use Rattle.entry.specs.Entered.{Entered}
 use Rattle.host_parts.specs.Calls.{call-of, answer-of}
 use Rattle.host_parts.specs.declared.HostAnswer.{HostAnswer}
 use Rattle.host_parts.specs.declared.HostCall.{HostCall}
 use Rattle.host_record.specs.declared.HostRecord.{HostRecord}
 use Rattle.host_record.specs.Record.{state-of, HostSound}
 use Rattle.host_record.proofs.Sound.{step-of-state}
-use Rattle.host_demands.specs.Runs.{no-call, one-call, EntryRun, HostRun}
+use Rattle.linguastel.specs.Called.{Called}
+use Rattle.host_demands.specs.Runs.{no-call, one-call, LentRunOfTurns, no-turn, one-turn, EntryRun, HostRun}
 
 pub entry-run : {s last : State} {calls : List Call} {answers : List Answer} → EntryRun s calls last answers → Run s calls last answers
 entry-run no-call = Runs.no-call
 entry-run (one-call h rest) = Runs.one-call h (entry-run rest)
+
+pub entry-turns : {I : Type 0} {s last : State} {turns : List (I × Call)} {answers : List (I × Answer)} → LentRunOfTurns Entered s turns last answers → RunOfTurns s turns last answers
+entry-turns no-turn = Runs.no-turn
+entry-turns (one-turn h rest) = Runs.one-turn h (entry-turns rest)
 
 -- The run of the states, and its answers, of which the host has the numbers.
 pub record RunOfStates (r : HostRecord) (calls : List HostCall) (last : HostRecord) (answers : List HostAnswer) : Type 0 where
@@ -33,3 +39,21 @@ run-of-states S (one-call {answer = answer} h rest) =
     let k = step-of-state h S in
     let others = run-of-states (k .sound) rest in
     record { given = k .answer ∷ others .given; run = Runs.one-call (k .steps) (others .run); answers-are = cons-≡ (k .answer-is) (others .answers-are) }
+
+-- The same where each call stands beside its owner. What f makes of each turn's call or answer:
+unfoldable pub each-turn : {I X Y : Type 0} → (X → Y) → List (I × X) → List (I × Y)
+each-turn f [] = []
+each-turn f (turn ∷ turns) = (turn .0, f (turn .1)) ∷ each-turn f turns
+
+pub record TurnsOfStates {I : Type 0} (r : HostRecord) (turns : List (I × HostCall)) (last : HostRecord) (answers : List (I × HostAnswer)) : Type 0 where
+  pub given : List (I × Answer)
+  pub run : RunOfTurns (state-of r) (each-turn call-of turns) (state-of last) given
+  pub answers-are : answers ≡ each-turn answer-of given
+
+pub turns-of-states : {I : Type 0} {r last : HostRecord} {turns : List (I × HostCall)} {answers : List (I × HostAnswer)} → HostSound r → LentRunOfTurns Called r turns last answers → TurnsOfStates r turns last answers
+unfolding each-turn
+turns-of-states S no-turn = record { given = []; run = Runs.no-turn; answers-are = refl }
+turns-of-states S (one-turn {i = i} h rest) =
+    let k = step-of-state h S in
+    let others = turns-of-states (k .sound) rest in
+    record { given = (i, k .answer) ∷ others .given; run = Runs.one-turn (k .steps) (others .run); answers-are = cons-≡ (λ j. (i, k .answer-is j)) (others .answers-are) }

@@ -15,6 +15,12 @@ pub data LentRun {S C A : Type 0} (Called : S → C → S → A → Type 0) : S 
   one-call : {s after last : S} {c : C} {answer : A} {calls : List C} {answers : List A}
       → Called s c after answer → LentRun Called after calls last answers → LentRun Called s (c ∷ calls) last (answer ∷ answers)
 
+-- The same where each call stands beside its owner, and so each answer.
+pub data LentRunOfTurns {I S C A : Type 0} (Called : S → C → S → A → Type 0) : S → List (I × C) → S → List (I × A) → Type 0 where
+  no-turn : {s : S} → LentRunOfTurns Called s [] s []
+  one-turn : {s after last : S} {i : I} {c : C} {answer : A} {turns : List (I × C)} {answers : List (I × A)}
+      → Called s c after answer → LentRunOfTurns Called after turns last answers → LentRunOfTurns Called s ((i, c) ∷ turns) last ((i, answer) ∷ answers)
+
 -- Through the thin entry.
 abbrev pub EntryRun : State → List Call → State → List Answer → Type 0
 EntryRun = LentRun Entered
