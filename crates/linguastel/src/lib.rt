@@ -1,5 +1,5 @@
 // The functions that hosts call, in C or Rust: thin entries over the record that the host lends. `rt staticlib linguastel` makes the library.
-// A pointer that is null or not aligned can't be told apart here: the header and the wrapper test it before they call.
+// No test here can find a pointer that is null or not aligned: the C header tests it before it calls, and safe Rust has none.
 ghost use mathlib.Core.Path.{_≡_};
 ghost use Rattle.lists.specs.Tests.{Whether};
 ghost use Rattle.model.specs.Rows.{empty-state};

@@ -53,10 +53,6 @@ Arg = RefT HostRecord × Unit {0}
 abbrev stayed : Stays (f.ended .signature .params) (f.ended .kept)
 stayed = (stay-ref (0 ∷ []) tt (plain (λ _. T.the-row)), tt)
 
--- the machine value of a record
-abbrev value : HostRecord → Val
-value = LL.val T.the-type T′.the-laws
-
 abbrev Empty : HostRecord → Type 0
 Empty r = HostSound r × (meaning r ≡ empty-state 0)
 

@@ -1,4 +1,4 @@
--- `linguastel_tick` meets its contract: the walk of `linguastel_call`, with no call to pass.
+-- `linguastel_tick` meets its contract: a walk of its MIR, by hand. It goes as that of crate thin, with no argument but the lent record.
 use mathlib.Core.Path.{refl, ap}
 use Prim.Native.Nat.{ℕ}
 use mathlib.Core.List.{[], _∷_, List}
