@@ -28,11 +28,12 @@ impl DataQueues {
         let mut state = self.state;
         let q = call.object as usize;
         let ring = Ring::new(call.value as u8);
-        state.queues[q] = Queue {
+        let changed = Queue {
             defined: true,
             attribute: call.attribute as u8,
             ring,
         };
+        state.queues[q] = cells::write_queue(changed);
         let answer = record::finished(Code::Ok, 0, 0, 0);
         Step { state, answer }
     }
@@ -47,11 +48,12 @@ impl DataQueues {
         let unsent = waits::end_waits(state, q, Code::Dlt);
         let mut alone = waits::end_waits(unsent, RECEIVERS + q, Code::Dlt);
         let ring = Ring::new(0);
-        alone.queues[q] = Queue {
+        let changed = Queue {
             defined: false,
             attribute: 0,
             ring,
         };
+        alone.queues[q] = cells::write_queue(changed);
         let answer = record::finished(Code::Ok, 0, 0, 0);
         Step {
             state: alone,
@@ -137,7 +139,7 @@ impl DataQueues {
         let q = call.object as usize;
         let sender = chain::first(&state.waiting.link, TASKS, TASK_CHAINS, q);
         let receiver = chain::first(&state.waiting.link, TASKS, TASK_CHAINS, RECEIVERS + q);
-        let queue = state.queues[q];
+        let queue = cells::read_queue(state.queues[q]);
         let count = queue.ring.length();
         let answer = record::finished(Code::Ok, sender as u32, receiver as u32, count as u32);
         Step { state, answer }

@@ -9,7 +9,7 @@ ghost use Rattle.linguastel.specs.Called.{Called};
 ghost use Rattle.linguastel.specs.Layout.{record-size, record-align};
 use host_parts::HostAnswer;
 use host_parts::HostCall;
-use host_record::HostRecord;
+use record::State;
 
 // The bytes of the record, and what its address has to be a multiple of.
 #[no_mangle]
@@ -28,15 +28,15 @@ pub extern "C" fn linguastel_record_align() -> usize
 
 // Makes the record empty, whatever it held: nothing is defined, the counter is 0.
 #[no_mangle]
-pub extern "C" fn linguastel_empty(lent: &mut HostRecord)
+pub extern "C" fn linguastel_empty(lent: &mut State)
     ensures { λ _. ⌜ HostSound (now (lent .exit)) × (meaning (now (lent .exit)) ≡ empty-state 0) ⌝ }
 {
-    *lent = HostRecord::empty();
+    *lent = State::empty();
 }
 
 // Whether the record is sound, whatever it holds.
 #[no_mangle]
-pub extern "C" fn linguastel_sound(lent: &HostRecord) -> bool
+pub extern "C" fn linguastel_sound(lent: &State) -> bool
     ensures { λ r. ⌜ Whether (HostSound (now (lent .entry))) r ⌝ }
 {
     (*lent).sound()
@@ -44,20 +44,20 @@ pub extern "C" fn linguastel_sound(lent: &HostRecord) -> bool
 
 // One call, or with number 0 the tick, on whatever record is lent.
 #[no_mangle]
-pub extern "C" fn linguastel_call(lent: &mut HostRecord, call: HostCall) -> HostAnswer
+pub extern "C" fn linguastel_call(lent: &mut State, call: HostCall) -> HostAnswer
     ensures { λ r. ⌜ Called (now (lent .entry)) call (now (lent .exit)) r ⌝ }
 {
-    let stepped = (*lent).step(call);
+    let stepped = host_record::step(*lent, call);
     *lent = stepped.state;
     stepped.answer
 }
 
 // One tick.
 #[no_mangle]
-pub extern "C" fn linguastel_tick(lent: &mut HostRecord) -> HostAnswer
+pub extern "C" fn linguastel_tick(lent: &mut State) -> HostAnswer
     ensures { λ r. ⌜ Called (now (lent .entry)) tick-call (now (lent .exit)) r ⌝ }
 {
-    let stepped = (*lent).tick();
+    let stepped = host_record::tick(*lent);
     *lent = stepped.state;
     stepped.answer
 }

@@ -56,7 +56,7 @@ fn queue_message(mut state: State, b: u8, g: u8, priority: u32) -> Step
 {
     let i = b as usize;
     let n = g as usize;
-    let mailbox = state.mailboxes[i];
+    let mailbox = cells::read_mailbox(state.mailboxes[i]);
     let ranked = parts::ranks_messages(mailbox.attribute);
     let rank = kept(ranked, priority);
     let behind = waits::limit(ranked, rank);
@@ -96,7 +96,7 @@ fn wait_for_message(state: State, b: u8, me: u8, end: End) -> Step
     ensures { λ r. ⌜ Does (wait-for-message b (mailbox-in state b) me (abs state .rows (task me)) end) state r ⌝ }
 {
     let i = b as usize;
-    let mailbox = state.mailboxes[i];
+    let mailbox = cells::read_mailbox(state.mailboxes[i]);
     let ranked = parts::ranks_waiters(mailbox.attribute);
     let wait = Wait::AtMailbox { mailbox: b, end };
     waits::join(state, WAITERS + i, me, ranked, wait)
@@ -124,11 +124,12 @@ impl Mailboxes {
         let i = call.object as usize;
         let attribute = call.attribute as u8;
         let highest = kept(parts::ranks_messages(attribute), call.value);
-        state.mailboxes[i] = Mailbox {
+        let changed = Mailbox {
             defined: true,
             attribute,
             highest,
         };
+        state.mailboxes[i] = cells::write_mailbox(changed);
         let answer = record::finished(Code::Ok, 0, 0, 0);
         Step { state, answer }
     }
@@ -144,11 +145,12 @@ impl Mailboxes {
         let mut messages = state.messages;
         chain::clear(&mut messages.link, MESSAGES, MESSAGE_CHAINS, i);
         state.messages = messages;
-        state.mailboxes[i] = Mailbox {
+        let changed = Mailbox {
             defined: false,
             attribute: 0,
             highest: 0,
         };
+        state.mailboxes[i] = cells::write_mailbox(changed);
         let answer = record::finished(Code::Ok, 0, 0, 0);
         Step { state, answer }
     }

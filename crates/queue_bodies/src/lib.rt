@@ -69,13 +69,14 @@ fn store(mut state: State, q: usize, word: u32) -> Step
     requires { ⌜ AtQueue state q × T (has-room (abs state .rows (queue q))) ⌝ }
     ensures { λ r. ⌜ Does (store q (abs state .rows (queue q)) word) state r ⌝ }
 {
-    let queue = state.queues[q];
+    let queue = cells::read_queue(state.queues[q]);
     let ring = queue.ring.push(word);
-    state.queues[q] = Queue {
+    let changed = Queue {
         defined: queue.defined,
         attribute: queue.attribute,
         ring,
     };
+    state.queues[q] = cells::write_queue(changed);
     let answer = record::finished(Code::Ok, 0, 0, 0);
     Step { state, answer }
 }
@@ -85,13 +86,14 @@ fn replace_oldest(mut state: State, q: usize, word: u32) -> Step
     requires { ⌜ AtQueue state q × T (not (empty (abs state .rows (queue q) .words))) ⌝ }
     ensures { λ r. ⌜ Does (replace-oldest q (abs state .rows (queue q)) word) state r ⌝ }
 {
-    let queue = state.queues[q];
+    let queue = cells::read_queue(state.queues[q]);
     let ring = queue.ring.drop_oldest_and_push(word);
-    state.queues[q] = Queue {
+    let changed = Queue {
         defined: queue.defined,
         attribute: queue.attribute,
         ring,
     };
+    state.queues[q] = cells::write_queue(changed);
     let answer = record::finished(Code::Ok, 0, 0, 0);
     Step { state, answer }
 }
@@ -102,7 +104,7 @@ fn wait_to_send(state: State, q: u8, me: u8, word: u32, end: End) -> Step
     ensures { λ r. ⌜ Does (wait-to-send q (abs state .rows (queue q)) me (abs state .rows (task me)) word end) state r ⌝ }
 {
     let i = q as usize;
-    let queue = state.queues[i];
+    let queue = cells::read_queue(state.queues[i]);
     let wait = Wait::Sending {
         queue: q,
         end,
@@ -120,7 +122,7 @@ pub fn send(state: State, q: u8, word: u32, full: Full) -> Step
     if chain::first(&state.waiting.link, TASKS, TASK_CHAINS, RECEIVERS + i) != 0 {
         return deliver(state, i, word);
     }
-    let queue = state.queues[i];
+    let queue = cells::read_queue(state.queues[i]);
     let ring = queue.ring;
     if ring.length() < ring.capacity() {
         return store(state, i, word);
@@ -142,14 +144,15 @@ fn take_oldest(mut state: State, q: usize) -> Step
     requires { ⌜ AtQueue state q × T (not (empty (abs state .rows (queue q) .words))) ⌝ }
     ensures { λ r. ⌜ Does (take-oldest q (abs state .rows (queue q))) state r ⌝ }
 {
-    let queue = state.queues[q];
+    let queue = cells::read_queue(state.queues[q]);
     let taken = queue.ring.pop();
     let ring = taken.ring;
-    state.queues[q] = Queue {
+    let changed = Queue {
         defined: queue.defined,
         attribute: queue.attribute,
         ring,
     };
+    state.queues[q] = cells::write_queue(changed);
     let answer = record::finished(Code::Ok, taken.word, 0, 0);
     Step { state, answer }
 }
@@ -160,17 +163,18 @@ fn take_oldest_and_refill(state: State, q: usize) -> Step
     ensures { λ r. ⌜ Does (take-oldest-and-refill q (abs state .rows (queue q))) state r ⌝ }
 {
     let sender = chain::first(&state.waiting.link, TASKS, TASK_CHAINS, q) as usize;
-    let task = state.tasks[sender];
+    let task = cells::read_task(state.tasks[sender]);
     let wait = task.wait;
-    let queue = state.queues[q];
+    let queue = cells::read_queue(state.queues[q]);
     let taken = queue.ring.pop();
     let ring = taken.ring.push(held_word(wait));
     let mut released = waits::release(state, q, 0);
-    released.queues[q] = Queue {
+    let changed = Queue {
         defined: queue.defined,
         attribute: queue.attribute,
         ring,
     };
+    released.queues[q] = cells::write_queue(changed);
     let answer = record::finished(Code::Ok, taken.word, 0, 0);
     Step {
         state: released,
@@ -184,7 +188,7 @@ fn take_from_sender(state: State, q: usize) -> Step
     ensures { λ r. ⌜ Does (take-from-sender q (abs state .rows (queue q))) state r ⌝ }
 {
     let sender = chain::first(&state.waiting.link, TASKS, TASK_CHAINS, q) as usize;
-    let task = state.tasks[sender];
+    let task = cells::read_task(state.tasks[sender]);
     let wait = task.wait;
     let word = held_word(wait);
     let released = waits::release(state, q, 0);
@@ -210,7 +214,7 @@ pub fn receive(state: State, q: u8, empty: Empty) -> Step
     ensures { λ r. ⌜ Does (receive q (abs state .rows (queue q)) (when-empty state q empty)) state r ⌝ }
 {
     let i = q as usize;
-    let queue = state.queues[i];
+    let queue = cells::read_queue(state.queues[i]);
     let ring = queue.ring;
     let sender = chain::first(&state.waiting.link, TASKS, TASK_CHAINS, i);
     if ring.length() != 0 {

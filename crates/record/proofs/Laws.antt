@@ -27,9 +27,13 @@ use Rattle.parts.specs.Tasks.{task-row}
 use Rattle.parts.specs.Queues.{queue-row}
 use Rattle.parts.specs.declared.Task.{Task}
 use Rattle.parts.specs.declared.Queue.{Queue}
-use Rattle.parts.specs.declared.Mailbox.{Mailbox}
+use Rattle.cells.specs.Tasks.{read-task}
+use Rattle.cells.specs.Objects.{read-queue}
+use Rattle.cells.specs.declared.TaskCells.{TaskCells}
+use Rattle.cells.specs.declared.QueueCells.{QueueCells}
+use Rattle.cells.specs.declared.MailboxCells.{MailboxCells}
 use Rattle.record.specs.declared.State.{State}
-use Rattle.record.specs.Meaning.{no-task-cell, no-queue-cell, task-at, queue-at, cells-of, abs}
+use Rattle.record.specs.Meaning.{no-task-cells, no-queue-cells, task-at, queue-at, cells-of, abs}
 use Rattle.record.specs.Sound.{Readable}
 use Rattle.record.specs.declared.Step.{Step}
 use Rattle.record.specs.Step.{Becomes, Does}
@@ -38,17 +42,17 @@ use Rattle.record.proofs.Chains.{chain-range}
 
 -- ── A record with one part changed ──
 
-abbrev pub with-task : ℕ → Task → State → State
-with-task t x s = record { counter = s .counter; tasks = set (s .tasks) t x; waiting = s .waiting; queues = s .queues; mailboxes = s .mailboxes; messages = s .messages }
+abbrev pub with-task : ℕ → TaskCells → State → State
+with-task t y s = record { counter = s .counter; tasks = set (s .tasks) t y; waiting = s .waiting; queues = s .queues; mailboxes = s .mailboxes; messages = s .messages }
 
 abbrev pub with-waiting : List ℕ → State → State
 with-waiting link s = record { counter = s .counter; tasks = s .tasks; waiting = record { link = link; key = s .waiting .key }; queues = s .queues; mailboxes = s .mailboxes; messages = s .messages }
 
-abbrev pub with-queue : ℕ → Queue → State → State
-with-queue q x s = record { counter = s .counter; tasks = s .tasks; waiting = s .waiting; queues = set (s .queues) q x; mailboxes = s .mailboxes; messages = s .messages }
+abbrev pub with-queue : ℕ → QueueCells → State → State
+with-queue q y s = record { counter = s .counter; tasks = s .tasks; waiting = s .waiting; queues = set (s .queues) q y; mailboxes = s .mailboxes; messages = s .messages }
 
-abbrev pub with-mailbox : ℕ → Mailbox → State → State
-with-mailbox b x s = record { counter = s .counter; tasks = s .tasks; waiting = s .waiting; queues = s .queues; mailboxes = set (s .mailboxes) b x; messages = s .messages }
+abbrev pub with-mailbox : ℕ → MailboxCells → State → State
+with-mailbox b y s = record { counter = s .counter; tasks = s .tasks; waiting = s .waiting; queues = s .queues; mailboxes = set (s .mailboxes) b y; messages = s .messages }
 
 abbrev pub with-messages : Chains → State → State
 with-messages x s = record { counter = s .counter; tasks = s .tasks; waiting = s .waiting; queues = s .queues; mailboxes = s .mailboxes; messages = x }
@@ -86,37 +90,38 @@ meaning e a = record { rows-are = a .rows-are ∙ e; counter-is = a .counter-is;
 
 -- ── Tasks ──
 
-module _ {s : State} (R : Readable s) (t : ℕ) (ok : T (valid (task t))) (x : Task) where
+module _ {s : State} (R : Readable s) (t : ℕ) (ok : T (valid (task t))) (y : TaskCells) where
   task-fits : t < length (s .tasks)
   task-fits = let r = from-within 1 task-limit t ok in let n = R .sizes .tasks in omega arith
 
-  pub new-task : task-at (with-task t x s) t ≡ x
-  new-task = getD-set-same (s .tasks) t x no-task-cell task-fits
+  pub new-task : task-at (with-task t y s) t ≡ read-task y
+  new-task = ap read-task (getD-set-same (s .tasks) t y no-task-cells task-fits)
 
-  pub other-task : (j : ℕ) → j ≢ t → task-at (with-task t x s) j ≡ task-at s j
-  other-task j n = getD-set-other (s .tasks) t j x no-task-cell n
+  pub other-task : (j : ℕ) → j ≢ t → task-at (with-task t y s) j ≡ task-at s j
+  other-task j n = ap read-task (getD-set-other (s .tasks) t j y no-task-cells n)
 
-  pub readable-task : Readable (with-task t x s)
+  pub readable-task : Readable (with-task t y s)
   readable-task = record {
-    sizes = record { tasks = length-set (s .tasks) t x ∙ R .sizes .tasks; queues = R .sizes .queues; mailboxes = R .sizes .mailboxes; task-keys = R .sizes .task-keys; message-keys = R .sizes .message-keys };
+    sizes = record { tasks = length-set (s .tasks) t y ∙ R .sizes .tasks; queues = R .sizes .queues; mailboxes = R .sizes .mailboxes; task-keys = R .sizes .task-keys; message-keys = R .sizes .message-keys };
     waiting = R .waiting;
     messages = R .messages;
     rings = R .rings;
   }
 
   -- A task with its suspension as it was.
-  pub task-changed : x .suspended ≡ task-at s t .suspended → Becomes s (update same-key (task t) (task-row x (getD (s .waiting .key) t 0)) (abs s .rows)) (with-task t x s)
+  pub task-changed : read-task y .suspended ≡ task-at s t .suspended
+      → Becomes s (update same-key (task t) (task-row (read-task y) (getD (s .waiting .key) t 0)) (abs s .rows)) (with-task t y s)
   task-changed e = record {
-    rows-are = changed-row s (with-task t x s) (task t) _ ok (ap (λ (y : Task). task-row y (getD (s .waiting .key) t 0)) new-task) others;
+    rows-are = changed-row s (with-task t y s) (task t) _ ok (ap (λ (x : Task). task-row x (getD (s .waiting .key) t 0)) new-task) others;
     counter-is = refl;
     readable = readable-task;
   }
     where
-      others : (j : Key) → j ≢ task t → T (valid j) → cells-of (with-task t x s) j ≡ cells-of s j
-      others (task j) n v = ap (λ (y : Task). task-row y (getD (s .waiting .key) j 0)) (other-task j (λ i. n (ap task i)))
+      others : (j : Key) → j ≢ task t → T (valid j) → cells-of (with-task t y s) j ≡ cells-of s j
+      others (task j) n v = ap (λ (x : Task). task-row x (getD (s .waiting .key) j 0)) (other-task j (λ i. n (ap task i)))
       others (suspension j) n v = elim (ℕ-discrete j t) [
-        | yes i ↦ rw i (ap (λ (y : Task). y .suspended) new-task ∙ e)
-        | no i ↦ ap (λ (y : Task). y .suspended) (other-task j i)
+        | yes i ↦ rw i (ap (λ (x : Task). x .suspended) new-task ∙ e)
+        | no i ↦ ap (λ (x : Task). x .suspended) (other-task j i)
       ]
       others (queue q) n v = refl
       others (mailbox b) n v = refl
@@ -184,19 +189,19 @@ waiting-changed {s} R k ok link l d = record { rows-are = rows k ok d; counter-i
 
 -- ── Data queues ──
 
-module _ {s : State} (R : Readable s) (q : ℕ) (ok : T (valid (queue q))) (x : Queue) where
+module _ {s : State} (R : Readable s) (q : ℕ) (ok : T (valid (queue q))) (y : QueueCells) where
   queue-fits : q < length (s .queues)
   queue-fits = let r = from-within 1 queue-limit q ok in let n = R .sizes .queues in omega arith
 
-  new-queue : queue-at (with-queue q x s) q ≡ x
-  new-queue = getD-set-same (s .queues) q x no-queue-cell queue-fits
+  new-queue : queue-at (with-queue q y s) q ≡ read-queue y
+  new-queue = ap read-queue (getD-set-same (s .queues) q y no-queue-cells queue-fits)
 
-  other-queue : (j : ℕ) → j ≢ q → queue-at (with-queue q x s) j ≡ queue-at s j
-  other-queue j n = getD-set-other (s .queues) q j x no-queue-cell n
+  other-queue : (j : ℕ) → j ≢ q → queue-at (with-queue q y s) j ≡ queue-at s j
+  other-queue j n = ap read-queue (getD-set-other (s .queues) q j y no-queue-cells n)
 
-  readable-queue : (T (x .defined) → InRange (x .ring)) → Readable (with-queue q x s)
+  readable-queue : (T (read-queue y .defined) → InRange (read-queue y .ring)) → Readable (with-queue q y s)
   readable-queue ring = record {
-    sizes = record { tasks = R .sizes .tasks; queues = length-set (s .queues) q x ∙ R .sizes .queues; mailboxes = R .sizes .mailboxes; task-keys = R .sizes .task-keys; message-keys = R .sizes .message-keys };
+    sizes = record { tasks = R .sizes .tasks; queues = length-set (s .queues) q y ∙ R .sizes .queues; mailboxes = R .sizes .mailboxes; task-keys = R .sizes .task-keys; message-keys = R .sizes .message-keys };
     waiting = R .waiting;
     messages = R .messages;
     rings = λ j v. elim (ℕ-discrete j q) [
@@ -206,15 +211,15 @@ module _ {s : State} (R : Readable s) (q : ℕ) (ok : T (valid (queue q))) (x : 
   }
 
   -- A data queue with its wait queues as they were.
-  pub queue-changed : (T (x .defined) → InRange (x .ring))
-      → Becomes s (update same-key (queue q) (queue-row x (abs s .rows (queue q) .senders) (abs s .rows (queue q) .receivers)) (abs s .rows)) (with-queue q x s)
-  queue-changed ring = record {
-    rows-are = changed-row s (with-queue q x s) (queue q) _ ok (rw (row-is s (queue q) ok, new-queue) refl) others;
+  pub queue-changed : {x : Queue} → read-queue y ≡ x → (T (x .defined) → InRange (x .ring))
+      → Becomes s (update same-key (queue q) (queue-row x (abs s .rows (queue q) .senders) (abs s .rows (queue q) .receivers)) (abs s .rows)) (with-queue q y s)
+  queue-changed {x} e ring = record {
+    rows-are = changed-row s (with-queue q y s) (queue q) _ ok (rw (row-is s (queue q) ok, new-queue, e) refl) others;
     counter-is = refl;
-    readable = readable-queue ring;
+    readable = readable-queue (rw e ring);
   }
     where
-      others : (j : Key) → j ≢ queue q → T (valid j) → cells-of (with-queue q x s) j ≡ cells-of s j
+      others : (j : Key) → j ≢ queue q → T (valid j) → cells-of (with-queue q y s) j ≡ cells-of s j
       others (task t) n v = refl
       others (suspension t) n v = refl
       others (queue j) n v = rw (other-queue j (λ e. n (ap queue e))) refl

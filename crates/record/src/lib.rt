@@ -7,19 +7,18 @@ ghost use Rattle.model.specs.Codes.{finished};
 ghost use Rattle.model.specs.Rows.{empty-state};
 ghost use Rattle.record.specs.Meaning.{abs};
 ghost use Rattle.record.specs.Sound.{Sound};
+use cells::MailboxCells;
+use cells::QueueCells;
+use cells::TaskCells;
 use chain::Chains;
 use chain::KEY_CELLS;
 use model::Answer;
 use model::Code;
 use model::Outcome;
-use model::Wait;
 use parts::MESSAGE_CHAINS;
 use parts::MESSAGES;
-use parts::Mailbox;
-use parts::Queue;
 use parts::TASK_CHAINS;
 use parts::TASKS;
-use parts::Task;
 use ring::Ring;
 
 // Cell 0 and 32 tasks; cell 0 and 16 data queues, or mailboxes.
@@ -29,15 +28,19 @@ const OBJECT_CELLS: usize = 17;
 
 // Cell n of `tasks`, `queues`, `mailboxes` and of the keys belongs to number n, and so do the links up to the last number; behind them stand the
 // heads of the chains. Cell 0 is nobody's. So a task's record is its cells in `tasks` and `waiting`, and a message's its cells in `messages`.
+//
+// Hosts in other languages lend this record (crate linguastel), so it is numbers alone, and what is made of words comes before what is made of bytes, so that
+// C leaves no gap between two fields.
+#[repr(C)]
 pub struct State {
     pub counter: u32,
-    pub tasks: [Task; TASK_CELLS],
+    pub tasks: [TaskCells; TASK_CELLS],
+    pub queues: [QueueCells; OBJECT_CELLS],
     // The wait queues; the keys are the tasks' priorities.
     pub waiting: Chains,
-    pub queues: [Queue; OBJECT_CELLS],
-    pub mailboxes: [Mailbox; OBJECT_CELLS],
     // The messages queued in each mailbox; the keys are the priorities kept with them.
     pub messages: Chains,
+    pub mailboxes: [MailboxCells; OBJECT_CELLS],
 }
 
 // What a step hands back: the changed state, together with the answer.
@@ -71,21 +74,24 @@ impl State {
     pub fn empty() -> State
         ensures { λ r. ⌜ Sound r × (abs r ≡ empty-state 0) ⌝ }
     {
-        let task = Task {
-            defined: false,
-            suspended: false,
-            wait: Wait::NoWait,
-            code: Code::Ok,
+        let task = TaskCells {
             word: 0,
+            end: 0,
+            sending: 0,
+            wait: 0,
+            object: 0,
+            timed: 0,
+            code: 0,
+            flags: 0,
         };
         let ring = Ring::new(0);
-        let queue = Queue {
-            defined: false,
-            attribute: 0,
+        let queue = QueueCells {
             ring,
+            defined: 0,
+            attribute: 0,
         };
-        let mailbox = Mailbox {
-            defined: false,
+        let mailbox = MailboxCells {
+            defined: 0,
             attribute: 0,
             highest: 0,
         };
@@ -94,10 +100,10 @@ impl State {
         State {
             counter: 0,
             tasks: [task; TASK_CELLS],
-            waiting,
             queues: [queue; OBJECT_CELLS],
-            mailboxes: [mailbox; OBJECT_CELLS],
+            waiting,
             messages,
+            mailboxes: [mailbox; OBJECT_CELLS],
         }
     }
 
@@ -125,11 +131,11 @@ impl State {
         }
         let mut n: usize = 1;
         while n < OBJECT_CELLS {
-            let queue = self.queues[n];
+            let queue = cells::read_queue(self.queues[n]);
             if !object_test::queue_sound(queue, &self.waiting.link, &self.waiting.key, n) {
                 return false;
             }
-            let mailbox = self.mailboxes[n];
+            let mailbox = cells::read_mailbox(self.mailboxes[n]);
             if !object_test::mailbox_sound(
                 mailbox,
                 &self.waiting.link,

@@ -10,9 +10,9 @@ ghost use Rattle.record.specs.Meaning.{abs};
 ghost use Rattle.record.specs.Sound.{Readable, Sound};
 ghost use Rattle.record.specs.Step.{Becomes, Accepted, Performs};
 ghost use Rattle.tasks.specs.Tick.{Ticked};
+use cells::TaskCells;
 use model::Call;
 use model::Code;
-use model::End;
 use model::Wait;
 use parts::TASKS;
 use parts::Task;
@@ -53,29 +53,14 @@ fn wait_object(wait: Wait) -> u32
     }
 }
 
-fn wait_end(wait: Wait) -> End
-    ensures { λ r. ⌜ r ≡ wait-end wait ⌝ }
+// Whether the wait in these cells is over when the counter has this value. By equality: less-than would go wrong where the counter wraps.
+fn due(cells: TaskCells, counter: u32) -> bool
+    ensures { λ r. ⌜ r ≡ due counter (wait-end (read-task cells .wait)) ⌝ }
 {
-    match wait {
-        Wait::NoWait => End::Never,
-        Wait::Sending {
-            queue: _,
-            end,
-            word: _,
-        } => end,
-        Wait::Receiving { queue: _, end } => end,
-        Wait::AtMailbox { mailbox: _, end } => end,
-    }
-}
-
-// Whether a wait with this end is over when the counter has this value. By equality: less-than would go wrong where the counter wraps.
-fn due(end: End, counter: u32) -> bool
-    ensures { λ r. ⌜ r ≡ due counter end ⌝ }
-{
-    match end {
-        End::Never => false,
-        End::At(tick) => tick == counter,
-    }
+    let wait = cells.wait;
+    let timed = cells.timed;
+    let end = cells.end;
+    (1 <= wait) & (wait <= 3) & (timed == 1) & (end == counter)
 }
 
 // ── The calls ──
@@ -86,16 +71,17 @@ fn set_suspension(mut state: State, t: u8, suspended: bool) -> State
     ensures { λ r. ⌜ Becomes state (update same-key (suspension t) suspended (abs state .rows)) r ⌝ }
 {
     let i = t as usize;
-    let task = state.tasks[i];
+    let task = cells::read_task(state.tasks[i]);
     let wait = task.wait;
     let code = task.code;
-    state.tasks[i] = Task {
+    let changed = Task {
         wait,
         word: task.word,
         code,
         defined: task.defined,
         suspended,
     };
+    state.tasks[i] = cells::write_task(changed);
     state
 }
 
@@ -115,13 +101,14 @@ impl Tasks {
         let mut waiting = state.waiting;
         waiting.key[t] = call.value as u8;
         state.waiting = waiting;
-        state.tasks[t] = Task {
+        let changed = Task {
             wait: Wait::NoWait,
             word: 0,
             code: Code::Ok,
             defined: true,
             suspended: false,
         };
+        state.tasks[t] = cells::write_task(changed);
         let answer = record::finished(Code::Ok, 0, 0, 0);
         Step { state, answer }
     }
@@ -166,7 +153,7 @@ impl Tasks {
     {
         let state = self.state;
         let t = call.object as usize;
-        let task = state.tasks[t];
+        let task = cells::read_task(state.tasks[t]);
         let wait = task.wait;
         let number = wait_number(wait);
         let object = wait_object(wait);
@@ -181,7 +168,7 @@ impl Tasks {
     {
         let state = self.state;
         let t = call.object as usize;
-        let task = state.tasks[t];
+        let task = cells::read_task(state.tasks[t]);
         let code = task.code;
         let answer = record::finished(code, task.word, 0, 0);
         Step { state, answer }
@@ -198,10 +185,8 @@ impl Tasks {
         let mut count: u32 = 0;
         let mut t: u8 = 1;
         while t <= TASKS as u8 {
-            let task = state.tasks[t as usize];
-            let wait = task.wait;
-            let end = wait_end(wait);
-            if due(end, counter) {
+            let cells = state.tasks[t as usize];
+            if due(cells, counter) {
                 state = waits::end_wait(state, t, Code::Tmout);
                 count += 1;
             }

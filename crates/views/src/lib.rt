@@ -13,13 +13,13 @@ ghost use Rattle.parts.specs.Mailboxes.{kept-attribute};
 ghost use Rattle.record.specs.Meaning.{mailbox-of, abs};
 ghost use Rattle.record.specs.Sound.{Sound};
 ghost use Rattle.views.specs.Shown.{task-shown, suspension-shown, queue-shown, MailboxShown};
+use cells::TaskCells;
 use chain::CELLS;
 use errors::MailboxSeen;
 use errors::QueueSeen;
 use errors::Seen;
 use errors::TaskSeen;
 use model::Call;
-use model::Wait;
 use parts::MESSAGE_CHAINS;
 use parts::MESSAGES;
 use parts::Mailbox;
@@ -27,7 +27,6 @@ use parts::Queue;
 use parts::RECEIVERS;
 use parts::TASK_CHAINS;
 use parts::TASKS;
-use parts::Task;
 use record::State;
 
 const OBJECTS: u8 = 16;
@@ -49,24 +48,8 @@ fn cell_of(number: u8, limit: u8) -> usize
     0
 }
 
-// In no wait.
-fn is_able(wait: Wait) -> bool
-    ensures { λ r. ⌜ r ≡ able wait ⌝ }
-{
-    match wait {
-        Wait::NoWait => true,
-        Wait::Sending {
-            queue: _,
-            end: _,
-            word: _,
-        } => false,
-        Wait::Receiving { queue: _, end: _ } => false,
-        Wait::AtMailbox { mailbox: _, end: _ } => false,
-    }
-}
-
-fn see_task(number: u8, task: Task) -> TaskSeen
-    ensures { λ r. ⌜ ShowsTask (task-shown number task) (suspension-shown number task) r ⌝ }
+fn see_task(number: u8, cells: TaskCells) -> TaskSeen
+    ensures { λ r. ⌜ ShowsTask (task-shown number (read-task cells)) (suspension-shown number (read-task cells)) r ⌝ }
 {
     if !is_valid(number, TASKS as u8) {
         return TaskSeen {
@@ -75,11 +58,12 @@ fn see_task(number: u8, task: Task) -> TaskSeen
             suspended: false,
         };
     }
-    let wait = task.wait;
+    let flags = cells.flags;
+    let wait = cells.wait;
     TaskSeen {
-        defined: task.defined,
-        able: is_able(wait),
-        suspended: task.suspended,
+        defined: (flags == 1) | (flags == 3),
+        able: wait == 0,
+        suspended: 1 < flags,
     }
 }
 
@@ -184,9 +168,9 @@ pub fn see(state: State, call: Call) -> Seen
     let task = names::task_named(call);
     let named = state.tasks[cell_of(task, TASKS as u8)];
     let q = names::queue_named(call);
-    let queue = state.queues[cell_of(q, OBJECTS)];
+    let queue = cells::read_queue(state.queues[cell_of(q, OBJECTS)]);
     let b = names::mailbox_named(call);
-    let mailbox = state.mailboxes[cell_of(b, OBJECTS)];
+    let mailbox = cells::read_mailbox(state.mailboxes[cell_of(b, OBJECTS)]);
     let caller_seen = see_task(caller, calling);
     let task_seen = see_task(task, named);
     let queue_seen = see_queue(q, queue, &state.waiting.link);

@@ -62,15 +62,16 @@ pub fn release(mut state: State, chain: usize, word: u32) -> State
     let mut waiting = state.waiting;
     let head = chain::pop(&mut waiting.link, TASKS, TASK_CHAINS, chain);
     let t = head as usize;
-    let task = state.tasks[t];
+    let task = cells::read_task(state.tasks[t]);
     state.waiting = waiting;
-    state.tasks[t] = Task {
+    let changed = Task {
         wait: Wait::NoWait,
         word,
         code: Code::Ok,
         defined: task.defined,
         suspended: task.suspended,
     };
+    state.tasks[t] = cells::write_task(changed);
     state
 }
 
@@ -92,15 +93,16 @@ pub fn join(mut state: State, chain: usize, me: u8, ranked: bool, wait: Wait) ->
         me,
         behind,
     );
-    let task = state.tasks[t];
+    let task = cells::read_task(state.tasks[t]);
     state.waiting = waiting;
-    state.tasks[t] = Task {
+    let changed = Task {
         wait,
         word: 0,
         code: Code::Ok,
         defined: task.defined,
         suspended: task.suspended,
     };
+    state.tasks[t] = cells::write_task(changed);
     Step {
         state,
         answer: Answer {
@@ -118,19 +120,20 @@ pub fn end_wait(mut state: State, t: u8, code: Code) -> State
     ensures { λ r. ⌜ Ended state t code r ⌝ }
 {
     let i = t as usize;
-    let task = state.tasks[i];
+    let task = cells::read_task(state.tasks[i]);
     let wait = task.wait;
     let chain = chain_named(wait);
     let mut left = state.waiting;
     chain::remove(&mut left.link, TASKS, TASK_CHAINS, chain, t);
     state.waiting = left;
-    state.tasks[i] = Task {
+    let changed = Task {
         wait: Wait::NoWait,
         word: 0,
         code,
         defined: task.defined,
         suspended: task.suspended,
     };
+    state.tasks[i] = cells::write_task(changed);
     state
 }
 

@@ -1,7 +1,10 @@
 -- `task_sound` is exact: its tests are, and they say what `TaskSound` says of a defined task, and of an undefined one.
+use mathlib.Core.Path.{_∙_}
 use borrow.Author.Needs.{needs}
-use Rattle.lists.proofs.Tests.{is-and, is-leb, is-eqb, is-T, is-not}
+use Rattle.lists.proofs.Tests.{is-and, is-leb, is-eqb}
 use Rattle.parts.proofs.Stops.{stops, goes-on}
+use Rattle.cells.specs.Tasks.{read-task}
+use Rattle.cells.proofs.Reading.{task-defined, reads-whether-able, reads-suspension}
 use Rattle.task_test.proofs.Tasks.{defined-task, undefined-task}
 use Rattle.task_test.proofs.task_sound.Statement.{statement}
 use Rattle.task_test.proofs.task_sound.Tie as tie
@@ -10,29 +13,28 @@ code-sound-requires : tie.Need-code-sound-requires
 code-sound-requires c κs = search needs
 
 returns : tie.Need-returns
+unfolding read-task
 returns c =
     let start = c .before .before in
-    defined-task (start .before .args .task) (start .if1 .taken) (stops (is-and (is-and (is-leb _ _) (is-leb _ _)) (rw (c .before .code-sound .ensures) (is-T _))) (c .if2 .taken))
+    defined-task (read-task (start .before .args .cells)) (start .if1 .taken) (stops (is-and (is-and (is-leb _ _) (is-leb _ _)) (c .before .code-sound .ensures)) (c .if2 .taken))
 
 wait-sound-requires : tie.Need-wait-sound-requires
 wait-sound-requires c κs = search needs
 
 returns-2 : tie.Need-returns-2
+unfolding read-task
 returns-2 c =
     let tested = c .before .before in
     let start = tested .before in
-    defined-task (start .before .args .task) (start .if1 .taken)
-    (goes-on (is-and (is-and (is-leb _ _) (is-leb _ _)) (rw (tested .code-sound .ensures) (is-T _))) (c .before .if2 .left) (c .wait-sound .ensures))
-
-no-wait-requires : tie.Need-no-wait-requires
-no-wait-requires c κs = search needs
+    defined-task (read-task (start .before .args .cells)) (start .if1 .taken)
+    (goes-on (is-and (is-and (is-leb _ _) (is-leb _ _)) (tested .code-sound .ensures)) (c .before .if2 .left) (c .wait-sound .ensures))
 
 returns-3 : tie.Need-returns-3
+unfolding read-task
 returns-3 c =
-    let start = c .before .before in
-    undefined-task (start .before .args .task) (start .if1 .left) (is-and (is-and (is-not (is-T (start .before .args .task .suspended))) (is-eqb _ _)) (c .no-wait .ensures))
+    let cells = c .before .args .cells in
+    undefined-task (read-task cells) (c .if1 .left) (is-and (is-and (reads-suspension cells (c .if1 .left)) (is-eqb _ _)) (reads-whether-able cells))
 
 pub task-sound-spec : {M : Type 1} → statement M
 task-sound-spec =
-    tie.close
-    (tie.spec code-sound-requires returns wait-sound-requires returns-2 no-wait-requires returns-3)
+    tie.close (tie.spec code-sound-requires returns wait-sound-requires returns-2 returns-3)

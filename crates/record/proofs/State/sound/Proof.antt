@@ -11,7 +11,7 @@ use Rattle.model.specs.Sizes.{task-limit, queue-limit, mailbox-limit}
 use Rattle.model.proofs.Tests.{to-within}
 use Rattle.record.specs.Sound.{Sizes}
 use Rattle.record.proofs.Parts.{TaskAt, QueueAt, MailboxAt, sound-parts, parts-sound}
-use Rattle.record.proofs.Testing.{Below, below-none, below-more, Walked, Marked, queue-testable, mailbox-testable, task-tested, tested-parts}
+use Rattle.record.proofs.Testing.{Below, below-none, below-more, Walked, Marked, queue-testable, mailbox-testable, task-tested, queue-tested, mailbox-tested, tested-parts}
 use Rattle.record.proofs.State.sound.Statement.{statement}
 use Rattle.record.proofs.State.sound.Tie as tie
 
@@ -46,10 +46,10 @@ loop-holds c =
     let walk = c .before .before .before .before .before .before in
     let sizes : Sizes (self .args .t1) = record {
       tasks = rw length-map at (typed .1 .0 .1 .0 .1);
-      queues = rw length-map at (typed .1 .1 .1 .0 .1 .0 .1);
-      mailboxes = rw length-map at (typed .1 .1 .1 .1 .0 .1 .0 .1);
-      task-keys = rw length-map at (typed .1 .1 .0 .1 .1 .1 .0 .1 .0 .1);
-      message-keys = rw length-map at (typed .1 .1 .1 .1 .1 .0 .1 .1 .1 .0 .1 .0 .1);
+      queues = rw length-map at (typed .1 .1 .0 .1 .0 .1);
+      mailboxes = rw length-map at (typed .1 .1 .1 .1 .1 .0 .1 .0 .1);
+      task-keys = rw length-map at (typed .1 .1 .1 .0 .1 .1 .1 .0 .1 .0 .1);
+      message-keys = rw length-map at (typed .1 .1 .1 .1 .0 .1 .1 .1 .0 .1 .0 .1);
     } in
     let walked : Walked (self .args .t1) = record {
       sizes = sizes;
@@ -103,55 +103,66 @@ loop2-holds c =
     let all : c .before .loop .t ≡ 33 = let b = i .1 in omega arith in
     (omega arith, omega arith, i .2, rw all at (i .4), below-none)
 
-mul-queue : tie.Need-mul-queue Inv-loop μ-loop Inv-loop2 μ-loop2
-mul-queue c = let h = c .loop2-test .taken in omega arith
+mul-read-queue : tie.Need-mul-read-queue Inv-loop μ-loop Inv-loop2 μ-loop2
+mul-read-queue c = let h = c .loop2-test .taken in omega arith
 
-element-copy-out-queue : tie.Need-element-copy-out-queue Inv-loop μ-loop Inv-loop2 μ-loop2
-element-copy-out-queue c = let h = c .loop2-test .taken in omega arith
+element-copy-out-read-queue : tie.Need-element-copy-out-read-queue Inv-loop μ-loop Inv-loop2 μ-loop2
+element-copy-out-read-queue c = let h = c .loop2-test .taken in omega arith
+
+read-queue-requires : tie.Need-read-queue-requires Inv-loop μ-loop Inv-loop2 μ-loop2
+read-queue-requires c κs = tt
 
 queue-sound-requires : tie.Need-queue-sound-requires Inv-loop μ-loop Inv-loop2 μ-loop2
 queue-sound-requires c κs =
-    let i = c .before .before .before .before .before .loop2 .inv in
-    let h = c .before .before .before .before .loop2-test .taken in
+    let i = c .before .before .before .before .before .before .loop2 .inv in
+    let h = c .before .before .before .before .before .loop2-test .taken in
     queue-testable (i .2) (i .0) (omega arith)
 
 returns-4 : tie.Need-returns-4 Inv-loop μ-loop Inv-loop2 μ-loop2
 returns-4 c =
-    let n = c .before .before .before .before .before .before .before .loop2 .n in
-    let i = c .before .before .before .before .before .before .before .loop2 .inv in
-    let h = c .before .before .before .before .before .before .loop2-test .taken in
-    fails (λ S. stopped (c .before .queue-sound .ensures) (c .if4 .taken) (sound-parts _ S .queues n (to-within 1 queue-limit n (i .0) (omega arith))))
+    let n = c .before .before .before .before .before .before .before .before .loop2 .n in
+    let i = c .before .before .before .before .before .before .before .before .loop2 .inv in
+    let h = c .before .before .before .before .before .before .before .loop2-test .taken in
+    let tested = queue-tested (i .2) n (c .before .before .before .before .before .read-queue .ensures) (c .before .queue-sound .ensures) in
+    fails (λ S. stopped tested (c .if4 .taken) (sound-parts _ S .queues n (to-within 1 queue-limit n (i .0) (omega arith))))
 
-mul-mailbox : tie.Need-mul-mailbox Inv-loop μ-loop Inv-loop2 μ-loop2
-mul-mailbox c = let h = c .before .before .before .before .before .before .loop2-test .taken in omega arith
+mul-read-mailbox : tie.Need-mul-read-mailbox Inv-loop μ-loop Inv-loop2 μ-loop2
+mul-read-mailbox c = let h = c .before .before .before .before .before .before .before .loop2-test .taken in omega arith
 
-element-copy-out-mailbox : tie.Need-element-copy-out-mailbox Inv-loop μ-loop Inv-loop2 μ-loop2
-element-copy-out-mailbox c = let h = c .before .before .before .before .before .before .loop2-test .taken in omega arith
+element-copy-out-read-mailbox : tie.Need-element-copy-out-read-mailbox Inv-loop μ-loop Inv-loop2 μ-loop2
+element-copy-out-read-mailbox c = let h = c .before .before .before .before .before .before .before .loop2-test .taken in omega arith
+
+read-mailbox-requires : tie.Need-read-mailbox-requires Inv-loop μ-loop Inv-loop2 μ-loop2
+read-mailbox-requires c κs = tt
 
 mailbox-sound-requires : tie.Need-mailbox-sound-requires Inv-loop μ-loop Inv-loop2 μ-loop2
 mailbox-sound-requires c κs =
-    let i = c .before .before .before .before .before .before .before .before .before .before .before .before .before .loop2 .inv in
-    let h = c .before .before .before .before .before .before .before .before .before .before .before .before .loop2-test .taken in
+    let i = c .before .before .before .before .before .before .before .before .before .before .before .before .before .before .before .loop2 .inv in
+    let h = c .before .before .before .before .before .before .before .before .before .before .before .before .before .before .loop2-test .taken in
     mailbox-testable (i .2) (i .0) (omega arith)
 
 returns-5 : tie.Need-returns-5 Inv-loop μ-loop Inv-loop2 μ-loop2
 returns-5 c =
-    let n = c .before .before .before .before .before .before .before .before .before .before .before .before .before .before .before .loop2 .n in
-    let i = c .before .before .before .before .before .before .before .before .before .before .before .before .before .before .before .loop2 .inv in
-    let h = c .before .before .before .before .before .before .before .before .before .before .before .before .before .before .loop2-test .taken in
-    fails (λ S. stopped (c .before .mailbox-sound .ensures) (c .if5 .taken) (sound-parts _ S .mailboxes n (to-within 1 mailbox-limit n (i .0) (omega arith))))
+    let n = c .before .before .before .before .before .before .before .before .before .before .before .before .before .before .before .before .before .loop2 .n in
+    let i = c .before .before .before .before .before .before .before .before .before .before .before .before .before .before .before .before .before .loop2 .inv in
+    let h = c .before .before .before .before .before .before .before .before .before .before .before .before .before .before .before .before .loop2-test .taken in
+    let tested = mailbox-tested (i .2) n (c .before .before .before .before .before .before .before .read-mailbox .ensures) (c .before .mailbox-sound .ensures) in
+    fails (λ S. stopped tested (c .if5 .taken) (sound-parts _ S .mailboxes n (to-within 1 mailbox-limit n (i .0) (omega arith))))
 
 add-n : tie.Need-add-n Inv-loop μ-loop Inv-loop2 μ-loop2
-add-n c = let h = c .before .before .before .before .before .before .before .before .before .before .before .before .before .before .loop2-test .taken in omega arith
+add-n c = let h = c .before .before .before .before .before .before .before .before .before .before .before .before .before .before .before .before .loop2-test .taken in omega arith
 
 loop2-less : tie.Need-loop2-less Inv-loop μ-loop Inv-loop2 μ-loop2
-loop2-less c = let h = c .before .before .before .before .before .before .before .before .before .before .before .before .before .before .loop2-test .taken in omega arith
+loop2-less c = let h = c .before .before .before .before .before .before .before .before .before .before .before .before .before .before .before .before .loop2-test .taken in omega arith
 
 loop2-again : tie.Need-loop2-again Inv-loop μ-loop Inv-loop2 μ-loop2
 loop2-again c =
-    let i = c .before .before .before .before .before .before .before .before .before .before .before .before .before .before .before .loop2 .inv in
-    let h = c .before .before .before .before .before .before .before .before .before .before .before .before .before .before .loop2-test .taken in
-    (omega arith, omega arith, i .2, i .3, below-more (i .4) (went-on (c .before .before .before .before .before .before .before .before .before .queue-sound .ensures) (c .before .before .before .before .before .before .before .before .if4 .left), went-on (c .before .mailbox-sound .ensures) (c .if5 .left)))
+    let n = c .before .before .before .before .before .before .before .before .before .before .before .before .before .before .before .before .before .loop2 .n in
+    let i = c .before .before .before .before .before .before .before .before .before .before .before .before .before .before .before .before .before .loop2 .inv in
+    let h = c .before .before .before .before .before .before .before .before .before .before .before .before .before .before .before .before .loop2-test .taken in
+    let queue-test = queue-tested (i .2) n (c .before .before .before .before .before .before .before .before .before .before .before .before .before .before .read-queue .ensures) (c .before .before .before .before .before .before .before .before .before .before .queue-sound .ensures) in
+    let mailbox-test = mailbox-tested (i .2) n (c .before .before .before .before .before .before .before .read-mailbox .ensures) (c .before .mailbox-sound .ensures) in
+    (omega arith, omega arith, i .2, i .3, below-more (i .4) (went-on queue-test (c .before .before .before .before .before .before .before .before .before .if4 .left), went-on mailbox-test (c .if5 .left)))
 
 returns-6 : tie.Need-returns-6 Inv-loop μ-loop Inv-loop2 μ-loop2
 returns-6 c =
@@ -183,12 +194,14 @@ sound-spec =
     loop-less
     loop-again
     loop2-holds
-    mul-queue
-    element-copy-out-queue
+    mul-read-queue
+    element-copy-out-read-queue
+    read-queue-requires
     queue-sound-requires
     returns-4
-    mul-mailbox
-    element-copy-out-mailbox
+    mul-read-mailbox
+    element-copy-out-read-mailbox
+    read-mailbox-requires
     mailbox-sound-requires
     returns-5
     add-n

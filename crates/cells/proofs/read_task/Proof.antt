@@ -1,0 +1,19 @@
+-- `read_task` reads each number as the definition does.
+use borrow.Author.Needs.{needs}
+use mathlib.Core.Path.{refl}
+use Rattle.cells.specs.Tasks.{read-task}
+use Rattle.cells.proofs.read_task.Statement.{statement}
+use Rattle.cells.proofs.read_task.Tie as tie
+
+wait-of-requires : tie.Need-wait-of-requires
+wait-of-requires c κs = search needs
+
+code-of-requires : tie.Need-code-of-requires
+code-of-requires c κs = search needs
+
+returns : tie.Need-returns
+unfolding read-task
+returns c = rw (c .code-of .ensures, c .before .wait-of .ensures) refl
+
+pub read-task-spec : {M : Type 1} → statement M
+read-task-spec = tie.close (tie.spec wait-of-requires code-of-requires returns)

@@ -1,0 +1,104 @@
+-- A task's cells. Every number reads as something; one that says nothing reads as what no sound record has, so the test of the record finds it.
+use mathlib.Core.Bool.{Bool, true, false, cond, _||_}
+use mathlib.Core.List.{[], _∷_}
+use mathlib.Core.Logic.{_≢_}
+use Prim.Native.Nat.{ℕ, _≤_}
+use lib.Dec.{T, eqb, ltb}
+use Rattle.lists.specs.Lists.{one-of}
+use Rattle.model.specs.Waits.{wait-number, wait-object, held-word, wait-end}
+use Rattle.model.specs.declared.Code.{Code}
+use Rattle.model.specs.declared.Code.the-variants.{Ok, Sys, Par, Id, Ctx, Iluse, Obj, Noexs, Qovr, Rlwai, Tmout, Dlt}
+use Rattle.model.specs.declared.End.{End}
+use Rattle.model.specs.declared.End.the-variants.{Never, At}
+use Rattle.model.specs.declared.Wait.{Wait}
+use Rattle.model.specs.declared.Wait.the-variants.{NoWait, Sending, Receiving, AtMailbox}
+use Rattle.parts.specs.declared.Task.{Task}
+use Rattle.cells.specs.declared.TaskCells.{TaskCells}
+
+-- ── Read ──
+
+abbrev pub end-of : ℕ → ℕ → End
+end-of timed tick = cond (eqb timed 0) Never (At tick)
+
+-- A wait at a data queue that there isn't: nobody waits so in a sound record.
+abbrev pub nowhere : Wait
+nowhere = Sending 255 Never 0
+
+-- The wait's number is 1, 2 or 3.
+abbrev pub wait-with : ℕ → ℕ → End → ℕ → Wait
+wait-with wait object end word = cond (eqb wait 1) (Sending object end word) (cond (eqb wait 2) (Receiving object end) (AtMailbox object end))
+
+unfoldable pub wait-of : TaskCells → Wait
+wait-of x =
+    cond (eqb (x .wait) 0) NoWait
+    (cond (ltb 3 (x .wait) || ltb 1 (x .timed)) nowhere
+    (wait-with (x .wait) (x .object) (end-of (x .timed) (x .end)) (x .sending)))
+
+-- The code with this number, but for its sign. A number that no code has reads as E_SYS, which isn't stored with a defined task of a sound record.
+unfoldable pub code-of : ℕ → Code
+code-of n =
+    cond (eqb n 0) Ok
+    (cond (eqb n 17) Par
+    (cond (eqb n 18) Id
+    (cond (eqb n 25) Ctx
+    (cond (eqb n 28) Iluse
+    (cond (eqb n 41) Obj
+    (cond (eqb n 42) Noexs
+    (cond (eqb n 43) Qovr
+    (cond (eqb n 49) Rlwai
+    (cond (eqb n 50) Tmout
+    (cond (eqb n 51) Dlt Sys))))))))))
+
+-- The flags are a sum: 1 defined, 2 suspended. A number above 3 reads as suspended and undefined, which no task is in a sound record.
+unfoldable pub read-task : TaskCells → Task
+read-task x = record { wait = wait-of x; word = x .word; code = code-of (x .code); defined = eqb (x .flags) 1 || eqb (x .flags) 3; suspended = ltb 1 (x .flags) }
+
+-- Every number of a task's record says something, as is shown of a sound record (crate record, Numbers.antt). A wait's numbers are used only where there is one, the code only of a task that is defined.
+pub record TaskNumbers (x : TaskCells) : Type 0 where
+  pub flags : x .flags ≤ 3
+  pub wait : x .wait ≤ 3
+  pub timed : x .wait ≢ 0 → x .timed ≤ 1
+  pub code : T (read-task x .defined) → T (one-of (x .code) (0 ∷ 49 ∷ 50 ∷ 51 ∷ []))
+
+-- ── Written ──
+
+-- The number of a code, but for its sign.
+abbrev pub code-byte : Code → ℕ
+code-byte Ok = 0
+code-byte Sys = 5
+code-byte Par = 17
+code-byte Id = 18
+code-byte Ctx = 25
+code-byte Iluse = 28
+code-byte Obj = 41
+code-byte Noexs = 42
+code-byte Qovr = 43
+code-byte Rlwai = 49
+code-byte Tmout = 50
+code-byte Dlt = 51
+
+abbrev pub timed-of : End → ℕ
+timed-of Never = 0
+timed-of (At tick) = 1
+
+abbrev pub tick-of : End → ℕ
+tick-of Never = 0
+tick-of (At tick) = tick
+
+abbrev pub flags-of : Bool → Bool → ℕ
+flags-of true true = 3
+flags-of true false = 1
+flags-of false true = 2
+flags-of false false = 0
+
+unfoldable pub write-task : Task → TaskCells
+write-task t = record {
+  word = t .word;
+  end = tick-of (wait-end (t .wait));
+  sending = held-word (t .wait);
+  wait = wait-number (t .wait);
+  object = wait-object (t .wait);
+  timed = timed-of (wait-end (t .wait));
+  code = code-byte (t .code);
+  flags = flags-of (t .defined) (t .suspended);
+}
