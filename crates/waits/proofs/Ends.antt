@@ -32,6 +32,9 @@ use Rattle.model.proofs.EndWaits.{standing-left, messages-left}
 use Rattle.model.proofs.KeptTasks.{Somewhere, waits-somewhere}
 use Rattle.parts.specs.Chains.{task-chains, chain-number, wait-chain}
 use Rattle.parts.specs.Tasks.{task-row}
+use Rattle.parts.specs.declared.Task.{Task}
+use Rattle.cells.specs.Tasks.{read-task}
+use Rattle.cells.specs.declared.TaskCells.{TaskCells}
 use Rattle.record.specs.declared.State.{State}
 use Rattle.record.specs.Meaning.{task-at, abs}
 use Rattle.record.specs.Sound.{Readable, Sound}
@@ -64,20 +67,19 @@ module _ {s : State} {t : ℕ} (a : Endable s t) where
       record { sound = R .waiting; low = rw (n .1) (r .0); high = rw (n .1) (r .1) }
 
   module _ {link : List ℕ} {n : ℕ} (p : Removed task-limit task-chains (wait-chain (task-at s t .wait)) t (s .waiting .link) link n) (code : Code) where
-    pub ended-all : Ended s t code
-        (with-task t (ended-cell code 0 (task-at s t)) (with-waiting link s))
-    ended-all = record { becomes = one }
+    pub ended-all : (y : TaskCells) → read-task y ≡ ended-cell code 0 (task-at s t) → Ended s t code (with-task t y (with-waiting link s))
+    ended-all y e = record { becomes = one }
       where
         wait-is : abs s .rows (task t) .wait ≡ task-at s t .wait
         wait-is = ap (λ (x : TaskRow). x .wait) (row-is s (task t) (a .valid-task))
 
-        one : (k : WaitQueue) → wait-queue (abs s .rows (task t) .wait) ≡ some k → Becomes s (ended-wait t code k (abs s .rows)) (with-task t (ended-cell code 0 (task-at s t)) (with-waiting link s))
-        one k e =
-            let n = named k (ap wait-queue (sym wait-is) ∙ e) in
+        one : (k : WaitQueue) → wait-queue (abs s .rows (task t) .wait) ≡ some k → Becomes s (ended-wait t code k (abs s .rows)) (with-task t y (with-waiting link s))
+        one k f =
+            let n = named k (ap wait-queue (sym wait-is) ∙ f) in
             let c : Changed task-limit task-chains (chain-number k) (s .waiting .link) link (without t (chain-list s (chain-number k))) = rw (n .1) at (p .changed) in
             rw (standing-chain s k (n .0))
-            (wait-changed R k (n .0) link (without t (chain-list s (chain-number k))) c t (a .valid-task) _ _ refl
-            (ended-row (task-at s t) _ (a .defined) code 0 ∙ ap (ended code 0) (sym (row-is s (task t) (a .valid-task)))))
+            (wait-changed R k (n .0) link (without t (chain-list s (chain-number k))) c t (a .valid-task) y _ (ap (λ (x : Task). x .suspended) e)
+            (ap (λ (x : Task). task-row x (getD (s .waiting .key) t 0)) e ∙ (ended-row (task-at s t) _ (a .defined) code 0 ∙ ap (ended code 0) (sym (row-is s (task t) (a .valid-task))))))
 
 -- In well-formed rows a task that waits stands where its wait says, so its wait can be ended.
 pub endable : {s : State} {counter : ℕ} {soonest : ℕ → ℕ} → Readable s → WellFormedRows counter soonest (abs s .rows) → (t : ℕ) → T (valid (task t)) → T (not (able (abs s .rows (task t) .wait))) → Endable s t

@@ -22,6 +22,9 @@ use Rattle.parts.specs.Chains.{task-chains, chain-number, tasks-in}
 use Rattle.parts.specs.Tasks.{task-row}
 use Rattle.parts.specs.declared.Task.{Task}
 use Rattle.parts.proofs.Empty.{chain-zero}
+use Rattle.cells.specs.Tasks.{read-task, write-task}
+use Rattle.cells.specs.declared.TaskCells.{TaskCells}
+use Rattle.cells.proofs.Faithful.{task-written}
 use Rattle.record.specs.declared.State.{State}
 use Rattle.record.specs.Meaning.{task-at, abs}
 use Rattle.record.specs.Sound.{Readable, Sound}
@@ -88,12 +91,16 @@ module _ {s : State} (S : Sound s) (k : WaitQueue) {t : ℕ} (i : In t (standing
   pub waiter-defined : T (task-at s t .defined)
   waiter-defined = waits-defined s t k waiter-valid (rows-of S .tasks t) (rows-of S .waiting .no-other t k i)
 
--- A task's cell with its wait ended, and with a wait started.
+-- A task with its wait ended, and with a wait started.
 abbrev pub ended-cell : Code → ℕ → Task → Task
 ended-cell code word x = record { wait = NoWait; word = word; code = code; defined = x .defined; suspended = x .suspended }
 
 abbrev pub started-cell : Wait → Task → Task
 started-cell wait x = record { wait = wait; word = 0; code = E-OK; defined = x .defined; suspended = x .suspended }
+
+-- Cells written from the task that was read.
+pub written-from : {x read : Task} {y : TaskCells} (change : Task → Task) → read ≡ x → y ≡ write-task (change read) → read-task y ≡ change x
+written-from change e f = task-written f ∙ ap change e
 
 -- The rows of such cells, of a defined task.
 module _ (x : Task) (priority : ℕ) (d : T (x .defined)) where
@@ -115,12 +122,12 @@ module _ (x : Task) (priority : ℕ) (d : T (x .defined)) where
 
 -- ── A wait queue and a task's row change ──
 
--- The chain of k became l and task t's cell x.
+-- The chain of k became l and task t's cells y.
 module _ {s : State} (R : Readable s) (k : WaitQueue) (ok : T (valid (object-of k))) (link l : List ℕ)
-    (d : Changed task-limit task-chains (chain-number k) (s .waiting .link) link l) (t : ℕ) (valid-task : T (valid (task t))) (x : Task) where
-  pub wait-changed : (row : TaskRow) → x .suspended ≡ task-at s t .suspended → task-row x (getD (s .waiting .key) t 0) ≡ row
-      → Becomes s (update same-key (task t) row (set-standing k l (abs s .rows))) (with-task t x (with-waiting link s))
+    (d : Changed task-limit task-chains (chain-number k) (s .waiting .link) link l) (t : ℕ) (valid-task : T (valid (task t))) (y : TaskCells) where
+  pub wait-changed : (row : TaskRow) → read-task y .suspended ≡ task-at s t .suspended → task-row (read-task y) (getD (s .waiting .key) t 0) ≡ row
+      → Becomes s (update same-key (task t) row (set-standing k l (abs s .rows))) (with-task t y (with-waiting link s))
   wait-changed row e f =
       let a = waiting-changed R k ok link l d in
-      meaning (ap (λ (y : TaskRow). update same-key (task t) y (abs (with-waiting link s) .rows)) f ∙ ap (update same-key (task t) row) (a .rows-are))
-      (and-then a (task-changed (a .readable) t valid-task x e))
+      meaning (ap (λ (z : TaskRow). update same-key (task t) z (abs (with-waiting link s) .rows)) f ∙ ap (update same-key (task t) row) (a .rows-are))
+      (and-then a (task-changed (a .readable) t valid-task y e))

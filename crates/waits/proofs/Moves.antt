@@ -23,6 +23,9 @@ use Rattle.model.proofs.Tests.{from-within}
 use Rattle.model.proofs.WaitMoves.{defined-task}
 use Rattle.parts.specs.Chains.{task-chains, wait-chain, tasks-in}
 use Rattle.parts.specs.Tasks.{task-row}
+use Rattle.parts.specs.declared.Task.{Task}
+use Rattle.cells.specs.Tasks.{read-task}
+use Rattle.cells.specs.declared.TaskCells.{TaskCells}
 use Rattle.record.specs.declared.State.{State}
 use Rattle.record.specs.Meaning.{task-at, abs}
 use Rattle.record.specs.Sound.{Sound}
@@ -44,21 +47,19 @@ module _ {s : State} {chain : ℕ} (a : Releasable s chain) {link : List ℕ} {t
     in-k : In t (standing-in (abs s .rows) k)
     in-k = rw (chain-of-queue (a .on) k o) in-list
 
-    released-is : (word : ℕ) → Becomes s (released k word (abs s .rows))
-        (with-task t (ended-cell E-OK word (task-at s t)) (with-waiting link s))
-    released-is word =
+    released-is : (word : ℕ) (y : TaskCells) → read-task y ≡ ended-cell E-OK word (task-at s t) → Becomes s (released k word (abs s .rows)) (with-task t y (with-waiting link s))
+    released-is word y e =
         let S = a .on .sound in
         let row : task-row (task-at s t) (getD (s .waiting .key) t 0) ≡ abs s .rows (task t) = sym (row-is s (task t) (waiter-valid S k in-k)) in
         rw (chain-of-queue (a .on) k o, ← p .first-is)
-        (wait-changed (S .readable) k (o .valid-object) link (tail (chain-list s chain)) (rw (o .chain-is) (p .changed)) t (waiter-valid S k in-k) _ _ refl
-        (ended-row (task-at s t) _ (waiter-defined S k in-k) E-OK word ∙ ap (ended E-OK word) row))
+        (wait-changed (S .readable) k (o .valid-object) link (tail (chain-list s chain)) (rw (o .chain-is) (p .changed)) t (waiter-valid S k in-k) y _ (ap (λ (x : Task). x .suspended) e)
+        (ap (λ (x : Task). task-row x (getD (s .waiting .key) t 0)) e ∙ (ended-row (task-at s t) _ (waiter-defined S k in-k) E-OK word ∙ ap (ended E-OK word) row)))
 
   pub head-range : (1 ≤ t) × (t ≤ task-limit)
   head-range = list-range (has-chain (a .on)) in-list
 
-  pub released-all : (word : ℕ) → Released s chain word
-      (with-task t (ended-cell E-OK word (task-at s t)) (with-waiting link s))
-  released-all word = record { becomes = λ k o. released-is k o word }
+  pub released-all : (word : ℕ) (y : TaskCells) → read-task y ≡ ended-cell E-OK word (task-at s t) → Released s chain word (with-task t y (with-waiting link s))
+  released-all word y e = record { becomes = λ k o. released-is k o word y e }
 
 -- ── A task joins ──
 
@@ -106,15 +107,14 @@ module _ {s : State} {chain me : ℕ} (a : Joinable s chain me) where
           go true e = p .place-is ∙ rw (e, me-key, keys-are) refl
           go false e = p .at-the-end e ∙ (sym (ap length (chain-of-queue (a .on) k o)) ∙ simp length-map)
 
-      joined-is : (wait : Wait) → Becomes s (joined ranked me k wait (abs s .rows))
-          (with-task me (started-cell wait (task-at s me)) (with-waiting link s))
-      joined-is wait =
+      joined-is : (wait : Wait) (y : TaskCells) → read-task y ≡ started-cell wait (task-at s me) → Becomes s (joined ranked me k wait (abs s .rows)) (with-task me y (with-waiting link s))
+      joined-is wait y e =
           rw (← place-is, chain-of-queue (a .on) k o)
-          (wait-changed (S .readable) k (o .valid-object) link (insert-at n me (chain-list s chain)) (rw (o .chain-is) (p .changed)) me me-valid _ _ refl
-          (started-row (task-at s me) _ me-defined wait ∙ ap (starting wait) (sym (row-is s (task me) me-valid))))
+          (wait-changed (S .readable) k (o .valid-object) link (insert-at n me (chain-list s chain)) (rw (o .chain-is) (p .changed)) me me-valid y _ (ap (λ (x : Task). x .suspended) e)
+          (ap (λ (x : Task). task-row x (getD (s .waiting .key) me 0)) e ∙ (started-row (task-at s me) _ me-defined wait ∙ ap (starting wait) (sym (row-is s (task me) me-valid)))))
 
-    pub joined-all : (wait : Wait) → Joined s chain me ranked wait (record {
-      state = with-task me (started-cell wait (task-at s me)) (with-waiting link s);
+    pub joined-all : (wait : Wait) (y : TaskCells) → read-task y ≡ started-cell wait (task-at s me) → Joined s chain me ranked wait (record {
+      state = with-task me y (with-waiting link s);
       answer = waits n;
     })
-    joined-all wait = record { becomes = λ k o. joined-is k o wait; answer-is = λ k o. ap waits (place-is k o) }
+    joined-all wait y e = record { becomes = λ k o. joined-is k o wait y e; answer-is = λ k o. ap waits (place-is k o) }
