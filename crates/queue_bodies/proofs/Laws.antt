@@ -1,4 +1,4 @@
--- A data queue that is defined: what its cell and its two chains say of its row, and what each test of the code says of it. By the laws of the record.
+-- A data queue that is defined: what its cells and its two chains say of its row, and what each test of the code says of it. By the laws of the record.
 use mathlib.Core.Path.{_≡_, refl, sym, ap, _∙_, subst}
 use mathlib.Core.Bool.{not}
 use mathlib.Core.List.{List, [], _∷_, headD}
@@ -22,6 +22,9 @@ use Rattle.model.proofs.Tests.{from-within}
 use Rattle.parts.specs.Queues.{queue-row}
 use Rattle.parts.specs.declared.Queue.{Queue}
 use Rattle.parts.proofs.Empty.{count-zero}
+use Rattle.cells.specs.Objects.{read-queue, write-queue}
+use Rattle.cells.specs.declared.QueueCells.{QueueCells}
+use Rattle.cells.proofs.Faithful.{queue-written}
 use Rattle.record.specs.declared.State.{State}
 use Rattle.record.specs.Meaning.{queue-at, abs}
 use Rattle.record.specs.Step.{Becomes}
@@ -41,7 +44,7 @@ module _ {s : State} {q : ℕ} (a : AtQueue s q) where
   pub queue-range : (1 ≤ q) × (q ≤ queue-limit)
   queue-range = from-within 1 queue-limit q (a .valid-queue)
 
-  -- Its cell lies in its array.
+  -- Its cells lie in their array.
   pub queue-fits : q < 17
   queue-fits = let r = queue-range in omega arith
 
@@ -75,7 +78,7 @@ module _ {s : State} {q : ℕ} (a : AtQueue s q) where
   pub receivers-chain : ChainOf (receivers-of q) (16 + q)
   receivers-chain = record { valid-object = a .valid-queue; chain-is = refl }
 
-  -- The cell with another ring of the same capacity.
+  -- The queue with another ring of the same capacity.
   abbrev pub with-ring : Ring → Queue
   with-ring r = record { defined = cell .defined; attribute = cell .attribute; ring = r }
 
@@ -83,11 +86,15 @@ module _ {s : State} {q : ℕ} (a : AtQueue s q) where
       → queue-row (with-ring r) senders receivers ≡ with-receivers receivers (with-senders senders (with-words (stored r) x))
   ring-row r senders receivers e = rw (row-is s (queue q) (a .valid-queue), e) refl
 
-  pub ring-changed : (r : Ring) → InRange r → r .capacity ≡ cell .ring .capacity → (words : List ℕ) → stored r ≡ words
-      → Becomes s (update same-key (queue q) (with-words words x) (abs s .rows)) (with-queue q (with-ring r) s)
-  ring-changed r inside e words w =
-      meaning (ap (λ (y : QueueRow). update same-key (queue q) y (abs s .rows)) (ring-row r (x .senders) (x .receivers) e ∙ ap (λ l. with-words l x) w))
-      (queue-changed (a .sound .readable) q (a .valid-queue) (with-ring r) (λ d. inside))
+  -- The cells that were written, from the queue that was read.
+  pub ring-written : {read : Queue} {r : Ring} {y : QueueCells} → read ≡ cell → y ≡ write-queue (record { defined = read .defined; attribute = read .attribute; ring = r }) → read-queue y ≡ with-ring r
+  ring-written {read} {r} e f = queue-written f ∙ ap (λ (z : Queue). record { defined = z .defined; attribute = z .attribute; ring = r }) e
+
+  pub ring-changed : (r : Ring) (y : QueueCells) → read-queue y ≡ with-ring r → InRange r → r .capacity ≡ cell .ring .capacity → (words : List ℕ) → stored r ≡ words
+      → Becomes s (update same-key (queue q) (with-words words x) (abs s .rows)) (with-queue q y s)
+  ring-changed r y reads inside e words w =
+      meaning (ap (λ (z : QueueRow). update same-key (queue q) z (abs s .rows)) (ring-row r (x .senders) (x .receivers) e ∙ ap (λ l. with-words l x) w))
+      (queue-changed (a .sound .readable) q (a .valid-queue) y reads (λ d. inside))
 
   pub room-left : T (has-room x) → length (stored (cell .ring)) < cell .ring .capacity
   room-left t = rw (words-are, capacity-is) at (ltb-yes {a = length (x .words)} {b = x .capacity} t)

@@ -32,6 +32,8 @@ use Rattle.model.proofs.Standing.{put-twice}
 use Rattle.model.proofs.Tests.{from-within}
 use Rattle.parts.specs.Queues.{queue-row}
 use Rattle.parts.specs.declared.Queue.{Queue}
+use Rattle.cells.specs.Objects.{read-queue}
+use Rattle.cells.specs.declared.QueueCells.{QueueCells}
 use Rattle.record.specs.declared.State.{State}
 use Rattle.record.specs.declared.Step.{Step}
 use Rattle.record.specs.Meaning.{queue-at, task-at, abs}
@@ -50,7 +52,7 @@ module _ {s : State} {q : ℕ} (a : AtQueue s q) where
   abbrev cell : Queue
   cell = queue-at s q
 
-  -- The head sender is a task, and its cell says what it waits for.
+  -- The head sender is a task, and its cells say what it waits for.
   module _ {sender : ℕ} (first-is : sender ≡ headD (chain-list s q) 0) (some : T (not (empty (x .senders)))) where
     head-is : sender ≡ headD (x .senders) 0
     head-is = first-is ∙ ap (λ l. headD l 0) (sym (chain-of-queue (on-senders a) (senders-of q) (senders-chain a)))
@@ -61,11 +63,11 @@ module _ {s : State} {q : ℕ} (a : AtQueue s q) where
     pub sender-range : (1 ≤ sender) × (sender ≤ task-limit)
     sender-range = from-within 1 task-limit sender (waiter-valid (a .sound) (senders-of q) in-senders)
 
-    -- Its cell lies in its array.
+    -- Its cells lie in their array.
     pub sender-fits : sender < 33
     sender-fits = let r = sender-range in omega arith
 
-    pub sender-offset : Fits w64 (sender * 24)
+    pub sender-offset : Fits w64 (sender * 20)
     sender-offset = let r = sender-range in record { fits = omega arith }
 
     pub sender-word : held-word (task-at s sender .wait) ≡ held-word (abs s .rows (task (headD (x .senders) 0)) .wait)
@@ -89,20 +91,22 @@ module _ {s : State} {q : ℕ} (a : AtQueue s q) where
     rest-is : tail (x .words) ≡ stored r
     rest-is = rw (words-are a, p .words-were) refl
 
-    pub takes-oldest : {y : Answer} → y ≡ finished E-OK word 0 0 → Does (take-oldest q x) s (record { state = with-queue q (with-ring a r) s; answer = y })
+    pub takes-oldest : {y : Answer} (cells : QueueCells) → read-queue cells ≡ with-ring a r → y ≡ finished E-OK word 0 0
+        → Does (take-oldest q x) s (record { state = with-queue q cells s; answer = y })
     unfolding take-oldest run
-    takes-oldest e = record {
-      becomes = ring-changed a r (p .kept .in-range) (p .kept .capacity-is) _ (sym rest-is);
+    takes-oldest cells reads e = record {
+      becomes = ring-changed a r cells reads (p .kept .in-range) (p .kept .capacity-is) _ (sym rest-is);
       answer-is = e ∙ ap (λ n. finished E-OK n 0 0) (sym oldest-is);
     }
 
     -- The head sender's word is pushed behind them, and the sender released.
-    pub takes-oldest-and-refills : {r' : Ring} {u : State} {y : Answer} → Pushed r (held-word (abs s .rows (task (headD (x .senders) 0)) .wait)) r' → Released s q 0 u → y ≡ finished E-OK word 0 0
-        → Does (take-oldest-and-refill q x) s (record { state = with-queue q (with-ring a r') u; answer = y })
+    pub takes-oldest-and-refills : {r' : Ring} {u : State} {y : Answer} (cells : QueueCells) → read-queue cells ≡ with-ring a r'
+        → Pushed r (held-word (abs s .rows (task (headD (x .senders) 0)) .wait)) r' → Released s q 0 u → y ≡ finished E-OK word 0 0
+        → Does (take-oldest-and-refill q x) s (record { state = with-queue q cells u; answer = y })
     unfolding take-oldest-and-refill run same-key update set-standing
-    takes-oldest-and-refills {r'} {u} {y} f e ok = record {
+    takes-oldest-and-refills {r'} {u} {y} cells reads f e ok = record {
       becomes = meaning (ap (λ v. update same-key (queue q) v (abs u .rows)) new-row ∙ (ap (update same-key (queue q) filled) (b .rows-are) ∙ fun-ext same))
-          (and-then b (queue-changed (b .readable) q (a .valid-queue) (with-ring a r') (λ d. f .kept .in-range)));
+          (and-then b (queue-changed (b .readable) q (a .valid-queue) cells reads (λ d. f .kept .in-range)));
       answer-is = ok ∙ ap (λ n. finished E-OK n 0 0) (sym oldest-is);
     }
       where

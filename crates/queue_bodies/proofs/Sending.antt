@@ -19,6 +19,8 @@ use Rattle.model.specs.declared.End.{End}
 use Rattle.model.specs.declared.Wait.the-variants.{Sending}
 use Rattle.model.proofs.After.{after-return, after-put, after-get-each}
 use Rattle.parts.specs.declared.Queue.{Queue}
+use Rattle.cells.specs.Objects.{read-queue}
+use Rattle.cells.specs.declared.QueueCells.{QueueCells}
 use Rattle.record.specs.declared.State.{State}
 use Rattle.record.specs.declared.Step.{Step}
 use Rattle.record.specs.Meaning.{queue-at, abs}
@@ -41,13 +43,13 @@ module _ {s : State} {q : ℕ} (a : AtQueue s q) where
     unfolding deliver release run same-key update set-standing
     delivers e = record { becomes = e .becomes (receivers-of q) (receivers-chain a); answer-is = ok }
 
-    pub stores : {r : Ring} → Pushed (cell .ring) word r → Does (store q x word) s (record { state = with-queue q (with-ring a r) s; answer = y })
+    pub stores : {r : Ring} (cells : QueueCells) → read-queue cells ≡ with-ring a r → Pushed (cell .ring) word r → Does (store q x word) s (record { state = with-queue q cells s; answer = y })
     unfolding store run
-    stores {r} p = record { becomes = ring-changed a r (p .kept .in-range) (p .kept .capacity-is) _ (rw (words-are a) (p .words-are)); answer-is = ok }
+    stores {r} cells e p = record { becomes = ring-changed a r cells e (p .kept .in-range) (p .kept .capacity-is) _ (rw (words-are a) (p .words-are)); answer-is = ok }
 
-    pub replaces : {r : Ring} → Replaced (cell .ring) word r → Does (replace-oldest q x word) s (record { state = with-queue q (with-ring a r) s; answer = y })
+    pub replaces : {r : Ring} (cells : QueueCells) → read-queue cells ≡ with-ring a r → Replaced (cell .ring) word r → Does (replace-oldest q x word) s (record { state = with-queue q cells s; answer = y })
     unfolding replace-oldest run
-    replaces {r} p = record { becomes = ring-changed a r (p .kept .in-range) (p .kept .capacity-is) _ (rw (words-are a) (p .words-are)); answer-is = ok }
+    replaces {r} cells e p = record { becomes = ring-changed a r cells e (p .kept .in-range) (p .kept .capacity-is) _ (rw (words-are a) (p .words-are)); answer-is = ok }
 
   pub waits-to-send : {me word : ℕ} {end : End} {ranked : Bool} {r : Step} → ranked ≡ senders-by-priority (x .attribute) → Joined s q me ranked (Sending q end word) r
       → Does (wait-to-send q x me (abs s .rows (task me)) word end) s r

@@ -22,11 +22,14 @@ deliver-requires c κs = let a = c .before .before .before .before .pre .0 in (a
 returns : tie.Need-returns
 returns c = let a = c .before .before .before .before .before .pre .0 in sends-to-receiver a _ _ (some-receiver a (c .before .before .first .ensures) (c .before .if1 .taken)) (c .deliver .ensures)
 
-mul-queue : tie.Need-mul-queue
-mul-queue c = queue-offset (c .before .before .before .before .pre .0)
+mul-read-queue : tie.Need-mul-read-queue
+mul-read-queue c = queue-offset (c .before .before .before .before .pre .0)
 
-element-copy-out-queue : tie.Need-element-copy-out-queue
-element-copy-out-queue c = queue-fits (c .before .before .before .before .pre .0)
+element-copy-out-read-queue : tie.Need-element-copy-out-read-queue
+element-copy-out-read-queue c = queue-fits (c .before .before .before .before .pre .0)
+
+read-queue-requires : tie.Need-read-queue-requires
+read-queue-requires c κs = tt
 
 length-requires : tie.Need-length-requires
 length-requires c κs = search needs
@@ -35,15 +38,15 @@ capacity-requires : tie.Need-capacity-requires
 capacity-requires c κs = search needs
 
 store-requires : tie.Need-store-requires
-store-requires c κs = let a = c .before .before .before .before .before .before .before .before .before .pre .0 in (a, has-room-now a (c .before .before .length .ensures) (c .before .capacity .ensures) (c .if2 .taken))
+store-requires c κs = let a = c .before .before .before .before .before .before .before .before .before .before .pre .0 in (a, has-room-now a (rw (c .before .before .before .before .read-queue .ensures) at (c .before .before .length .ensures)) (rw (c .before .before .before .before .read-queue .ensures) at (c .before .capacity .ensures)) (c .if2 .taken))
 
 returns-2 : tie.Need-returns-2
 returns-2 c =
     let room = c .before in
-    let nobody = room .before .before .before .before .before in
+    let nobody = room .before .before .before .before .before .before in
     let a = nobody .before .before .before .before .pre .0 in
     sends-to-store a _ _ (no-receiver a (nobody .before .first .ensures) (nobody .if1 .left))
-    (has-room-now a (room .before .before .length .ensures) (room .before .capacity .ensures) (room .if2 .taken)) (c .store .ensures)
+    (has-room-now a (rw (room .before .before .before .before .read-queue .ensures) at (room .before .before .length .ensures)) (rw (room .before .before .before .before .read-queue .ensures) at (room .before .capacity .ensures)) (room .if2 .taken)) (c .store .ensures)
 
 enum-told : tie.Need-enum-told
 enum-told c = search needs
@@ -56,7 +59,7 @@ enum-known-full c = search needs
 
 wait-to-send-requires : tie.Need-wait-to-send-requires
 wait-to-send-requires c κs =
-    let start = c .before .before .before .before .before .before .before .before .before .before .before .before in
+    let start = c .before .before .before .before .before .before .before .before .before .before .before .before .before in
     (start .pre .0, rw (c .before .full .given .1) at (start .pre .1))
 
 enum-told-2 : tie.Need-enum-told-2
@@ -65,35 +68,35 @@ enum-told-2 c = search needs
 replace-oldest-requires : tie.Need-replace-oldest-requires
 replace-oldest-requires c κs =
     let full = c .before .before in
-    let nobody = full .before .before .before .before .before in
+    let nobody = full .before .before .before .before .before .before in
     let start = nobody .before .before .before .before in
     let a = start .pre .0 in
     let ready : FullReady _ _ Replace = rw (c .enum-told2 .given .1) at (start .pre .1) in
-    (a, full-words a (no-room a (full .before .before .length .ensures) (full .before .capacity .ensures) (full .if2 .left)) (ready (no-receiver a (nobody .before .first .ensures) (nobody .if1 .left))))
+    (a, full-words a (no-room a (rw (full .before .before .before .before .read-queue .ensures) at (full .before .before .length .ensures)) (rw (full .before .before .before .before .read-queue .ensures) at (full .before .capacity .ensures)) (full .if2 .left)) (ready (no-receiver a (nobody .before .first .ensures) (nobody .if1 .left))))
 
 returns-3 : tie.Need-returns-3
 returns-3 c =
     let full = c .before .before .before in
-    let nobody = full .before .before .before .before .before in
+    let nobody = full .before .before .before .before .before .before in
     let a = nobody .before .before .before .before .pre .0 in
     sends-otherwise a _ _ (no-receiver a (nobody .before .first .ensures) (nobody .if1 .left))
-    (no-room a (full .before .before .length .ensures) (full .before .capacity .ensures) (full .if2 .left)) (rw (c .before .enum-told .given .1) (stays (a .sound .readable) (c .finished .ensures)))
+    (no-room a (rw (full .before .before .before .before .read-queue .ensures) at (full .before .before .length .ensures)) (rw (full .before .before .before .before .read-queue .ensures) at (full .before .capacity .ensures)) (full .if2 .left)) (rw (c .before .enum-told .given .1) (stays (a .sound .readable) (c .finished .ensures)))
 
 returns-4 : tie.Need-returns-4
 returns-4 c =
     let full = c .before .before .before .before in
-    let nobody = full .before .before .before .before .before in
+    let nobody = full .before .before .before .before .before .before in
     let a = nobody .before .before .before .before .pre .0 in
     sends-otherwise a _ _ (no-receiver a (nobody .before .first .ensures) (nobody .if1 .left))
-    (no-room a (full .before .before .length .ensures) (full .before .capacity .ensures) (full .if2 .left)) (rw (c .before .before .full .given .1) (c .wait-to-send .ensures))
+    (no-room a (rw (full .before .before .before .before .read-queue .ensures) at (full .before .before .length .ensures)) (rw (full .before .before .before .before .read-queue .ensures) at (full .before .capacity .ensures)) (full .if2 .left)) (rw (c .before .before .full .given .1) (c .wait-to-send .ensures))
 
 returns-5 : tie.Need-returns-5
 returns-5 c =
     let full = c .before .before .before in
-    let nobody = full .before .before .before .before .before in
+    let nobody = full .before .before .before .before .before .before in
     let a = nobody .before .before .before .before .pre .0 in
     sends-otherwise a _ _ (no-receiver a (nobody .before .first .ensures) (nobody .if1 .left))
-    (no-room a (full .before .before .length .ensures) (full .before .capacity .ensures) (full .if2 .left)) (rw (c .before .enum-told2 .given .1) (c .replace-oldest .ensures))
+    (no-room a (rw (full .before .before .before .before .read-queue .ensures) at (full .before .before .length .ensures)) (rw (full .before .before .before .before .read-queue .ensures) at (full .before .capacity .ensures)) (full .if2 .left)) (rw (c .before .enum-told2 .given .1) (c .replace-oldest .ensures))
 
 pub send-spec : {M : Type 1} → statement M
 send-spec =
@@ -103,8 +106,9 @@ send-spec =
     first-requires
     deliver-requires
     returns
-    mul-queue
-    element-copy-out-queue
+    mul-read-queue
+    element-copy-out-read-queue
+    read-queue-requires
     length-requires
     capacity-requires
     store-requires
