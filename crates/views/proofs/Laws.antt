@@ -1,10 +1,10 @@
 -- What is seen of the cells of the numbers that a call names is what the call has in view: kind by kind, by the decision whether the number is valid.
-use mathlib.Core.Path.{_≡_, refl}
-use mathlib.Core.Bool.{Bool, true, false, cond}
+use mathlib.Core.Path.{_≡_, refl, sym, ap, _∙_}
+use mathlib.Core.Bool.{Bool, true, false, cond, _||_}
 use mathlib.Core.List.{List, [], _∷_, headD, List·Memᴰ as In, List·Memᴰ·head as here}
 use Prim.Native.Nat.{ℕ, _+_, _<_, _≤_}
 use native.Mathlib.Omega.{arith}
-use lib.Dec.{T, eqb}
+use lib.Dec.{T, eqb, ltb}
 use lib.ListN.{length, getD}
 use borrow.Author.Tests.{ne-eqb}
 use Rattle.lists.specs.Lists.{empty}
@@ -31,6 +31,9 @@ use Rattle.model.proofs.Tests.{from-within}
 use Rattle.parts.specs.declared.Task.{Task}
 use Rattle.parts.specs.declared.Queue.{Queue}
 use Rattle.parts.specs.declared.Mailbox.{Mailbox}
+use Rattle.cells.specs.declared.TaskCells.{TaskCells}
+use Rattle.cells.specs.Tasks.{read-task}
+use Rattle.cells.proofs.Reading.{task-defined, task-suspended, task-wait, reads-able}
 use Rattle.record.specs.declared.State.{State}
 use Rattle.record.specs.Meaning.{task-at, queue-at, mailbox-at, mailbox-of, cells-of, abs}
 use Rattle.views.specs.Shown.{task-shown, suspension-shown, queue-shown, MailboxShown}
@@ -48,18 +51,18 @@ module _ (s : State) (n : ℕ) {cell : ℕ} where
       go true h = record { defined = h .defined; able = h .able; suspended = h .suspended }
       go false h = h
 
-  pub sees-queue : {y : QueueSeen} → cell ≡ cond (valid (queue n)) n 0 → ShowsQueue (queue-shown n (queue-at s cell) (s .waiting .link)) y → ShowsQueue (row-if-valid (abs s .rows) (queue n)) y
+  pub sees-queue : {x : Queue} {y : QueueSeen} → cell ≡ cond (valid (queue n)) n 0 → x ≡ queue-at s cell → ShowsQueue (queue-shown n x (s .waiting .link)) y → ShowsQueue (row-if-valid (abs s .rows) (queue n)) y
   unfolding abs
-  sees-queue {y} e h = go (valid (queue n)) (rw e at h)
+  sees-queue {x} {y} e f h = go (valid (queue n)) (rw (f, e) at h)
     where
       go : (b : Bool) → ShowsQueue (cond b (queue-row (queue-at s (cond b n 0)) (tasks-in (s .waiting .link) (senders-of n)) (tasks-in (s .waiting .link) (receivers-of n))) no-queue) y
           → ShowsQueue (cond b (cond b (cells-of s (queue n)) no-queue) no-queue) y
       go true h = h
       go false h = h
 
-  pub sees-mailbox : {y : MailboxSeen} → cell ≡ cond (valid (mailbox n)) n 0 → MailboxShown n (mailbox-at s cell) (s .messages .link) y → ShowsMailbox (row-if-valid (abs s .rows) (mailbox n)) y
+  pub sees-mailbox : {x : Mailbox} {y : MailboxSeen} → cell ≡ cond (valid (mailbox n)) n 0 → x ≡ mailbox-at s cell → MailboxShown n x (s .messages .link) y → ShowsMailbox (row-if-valid (abs s .rows) (mailbox n)) y
   unfolding abs
-  sees-mailbox {y} e h = go (valid (mailbox n)) (rw e at (h .shows (tasks-in (s .waiting .link) (waiters-of n))))
+  sees-mailbox {x} {y} e f h = go (valid (mailbox n)) (rw (f, e) at (h .shows (tasks-in (s .waiting .link) (waiters-of n))))
     where
       go : (b : Bool) → ShowsMailbox (cond b (mailbox-row (mailbox-at s (cond b n 0)) (tasks-in (s .waiting .link) (waiters-of n)) (messages-in (s .messages .link) n)) no-mailbox) y
           → ShowsMailbox (cond b (cond b (cells-of s (mailbox n)) no-mailbox) no-mailbox) y
@@ -89,8 +92,9 @@ module _ (n : ℕ) where
   pub no-task-seen : (x : Task) → within 1 32 n ≡ false → ShowsTask (task-shown n x) (suspension-shown n x) (record { defined = false; able = true; suspended = false })
   no-task-seen x e = rw e (record { defined = refl; able = refl; suspended = refl })
 
-  pub task-seen : (x : Task) {a : Bool} → within 1 32 n ≡ true → a ≡ able (x .wait) → ShowsTask (task-shown n x) (suspension-shown n x) (record { defined = x .defined; able = a; suspended = x .suspended })
-  task-seen x e f = rw e (record { defined = refl; able = f; suspended = refl })
+  pub task-seen : (x : TaskCells) → within 1 32 n ≡ true
+      → ShowsTask (task-shown n (read-task x)) (suspension-shown n (read-task x)) (record { defined = eqb (x .flags) 1 || eqb (x .flags) 3; able = eqb (x .wait) 0; suspended = ltb 1 (x .flags) })
+  task-seen x e = rw e (record { defined = sym (task-defined x); able = sym (ap able (task-wait x) ∙ reads-able x); suspended = sym (task-suspended x) })
 
   pub no-queue-seen : (x : Queue) (link : List ℕ) → within 1 16 n ≡ false
       → ShowsQueue (queue-shown n x link) (record { defined = false; capacity = 0; count = 0; «no_sender» = true; «no_receiver» = true })

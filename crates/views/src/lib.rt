@@ -1,14 +1,13 @@
 // What the error table asks of the rows that a call has in view. A number that isn't valid shows nothing: cell 0 is read for it, which is
 // nobody's, and isn't looked at.
 ghost use mathlib.Core.Path.{_≡_};
-ghost use mathlib.Core.Bool.{cond, false};
-ghost use Prim.Native.Nat.{ℕ};
+ghost use mathlib.Core.Bool.{cond};
 ghost use lib.Dec.{eqb};
+ghost use Rattle.cells.specs.Tasks.{read-task};
 ghost use Rattle.chain.specs.Table as chain;
-ghost use Rattle.errors.specs.Seen.{ShowsTask, ShowsQueue, ShowsMailbox, Shows};
+ghost use Rattle.errors.specs.Seen.{ShowsTask, ShowsQueue, Shows};
 ghost use Rattle.model.specs.Calls.{view-of};
 ghost use Rattle.model.specs.Sizes.{within};
-ghost use Rattle.model.specs.Waits.{able};
 ghost use Rattle.parts.specs.Mailboxes.{kept-attribute};
 ghost use Rattle.record.specs.Meaning.{mailbox-of, abs};
 ghost use Rattle.record.specs.Sound.{Sound};

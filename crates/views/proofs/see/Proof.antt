@@ -39,11 +39,14 @@ queue-named-requires c κs = search needs
 cell-of-requires-3 : tie.Need-cell-of-requires-3
 cell-of-requires-3 c κs = search needs
 
-mul-queue : tie.Need-mul-queue
-mul-queue c = let h = cell-fits (c .before .queue-named .result) 16 (c .cell-of3 .ensures) in omega arith
+mul-read-queue : tie.Need-mul-read-queue
+mul-read-queue c = let h = cell-fits (c .before .queue-named .result) 16 (c .cell-of3 .ensures) in omega arith
 
-element-copy-out-queue : tie.Need-element-copy-out-queue
-element-copy-out-queue c = let h = cell-fits (c .before .queue-named .result) 16 (c .cell-of3 .ensures) in omega arith
+element-copy-out-read-queue : tie.Need-element-copy-out-read-queue
+element-copy-out-read-queue c = let h = cell-fits (c .before .queue-named .result) 16 (c .cell-of3 .ensures) in omega arith
+
+read-queue-requires : tie.Need-read-queue-requires
+read-queue-requires c κs = search needs
 
 mailbox-named-requires : tie.Need-mailbox-named-requires
 mailbox-named-requires c κs = search needs
@@ -51,11 +54,14 @@ mailbox-named-requires c κs = search needs
 cell-of-requires-4 : tie.Need-cell-of-requires-4
 cell-of-requires-4 c κs = search needs
 
-mul-mailbox : tie.Need-mul-mailbox
-mul-mailbox c = let h = cell-fits (c .before .mailbox-named .result) 16 (c .cell-of4 .ensures) in omega arith
+mul-read-mailbox : tie.Need-mul-read-mailbox
+mul-read-mailbox c = let h = cell-fits (c .before .mailbox-named .result) 16 (c .cell-of4 .ensures) in omega arith
 
-element-copy-out-mailbox : tie.Need-element-copy-out-mailbox
-element-copy-out-mailbox c = let h = cell-fits (c .before .mailbox-named .result) 16 (c .cell-of4 .ensures) in omega arith
+element-copy-out-read-mailbox : tie.Need-element-copy-out-read-mailbox
+element-copy-out-read-mailbox c = let h = cell-fits (c .before .mailbox-named .result) 16 (c .cell-of4 .ensures) in omega arith
+
+read-mailbox-requires : tie.Need-read-mailbox-requires
+read-mailbox-requires c κs = search needs
 
 see-task-requires : tie.Need-see-task-requires
 see-task-requires c κs = search needs
@@ -67,13 +73,13 @@ see-queue-requires : tie.Need-see-queue-requires
 see-queue-requires c κs = search needs
 
 see-mailbox-requires : tie.Need-see-mailbox-requires
-see-mailbox-requires c κs = search needs
+see-mailbox-requires c κs = c .before .before .before .before .before .before .before .before .before .before .before .before .before .before .before .before .before .before .before .before .pre .readable .messages
 
 message-named-requires : tie.Need-message-named-requires
 message-named-requires c κs = search needs
 
 see-message-requires : tie.Need-see-message-requires
-see-message-requires c κs = c .before .before .before .before .before .before .before .before .before .before .before .before .before .before .before .before .before .before .before .before .before .before .pre .readable .messages
+see-message-requires c κs = c .before .before .before .before .before .before .before .before .before .before .before .before .before .before .before .before .before .before .before .before .before .before .before .before .pre .readable .messages
 
 returns : tie.Need-returns
 returns c =
@@ -81,8 +87,10 @@ returns c =
     let seen-queue = seen-mailbox .before .before .before in
     let seen-named = seen-queue .before .before .before in
     let seen-calling = seen-named .before in
-    let mailbox = seen-calling .before .before in
-    let queue = mailbox .before .before .before in
+    let read-mailbox = seen-calling .before in
+    let mailbox = read-mailbox .before .before in
+    let read-queue = mailbox .before .before in
+    let queue = read-queue .before .before in
     let named = queue .before .before .before in
     let calling = named .before .before .before in
     let start = calling .before in
@@ -90,8 +98,8 @@ returns c =
     sees s (start .args .call)
     (sees-task s (start .args .call .caller) (calling .cell-of .ensures) (seen-calling .see-task .ensures))
     (rw (named .before .task-named .ensures) at (sees-task s (named .before .task-named .result) (named .cell-of2 .ensures) (seen-named .see-task2 .ensures)))
-    (rw (queue .before .queue-named .ensures) at (sees-queue s (queue .before .queue-named .result) (queue .cell-of3 .ensures) (seen-queue .see-queue .ensures)))
-    (rw (mailbox .before .mailbox-named .ensures) at (sees-mailbox s (mailbox .before .mailbox-named .result) (mailbox .cell-of4 .ensures) (seen-mailbox .see-mailbox .ensures)))
+    (rw (queue .before .queue-named .ensures) at (sees-queue s (queue .before .queue-named .result) (queue .cell-of3 .ensures) (read-queue .read-queue .ensures) (seen-queue .see-queue .ensures)))
+    (rw (mailbox .before .mailbox-named .ensures) at (sees-mailbox s (mailbox .before .mailbox-named .result) (mailbox .cell-of4 .ensures) (read-mailbox .read-mailbox .ensures) (seen-mailbox .see-mailbox .ensures)))
     (rw (c .before .before .before .message-named .ensures) at (c .see-message .ensures ∙ sees-message s (c .before .before .before .message-named .result)))
 
 pub see-spec : {M : Type 1} → statement M
@@ -109,12 +117,14 @@ see-spec =
     element-copy-out-named
     queue-named-requires
     cell-of-requires-3
-    mul-queue
-    element-copy-out-queue
+    mul-read-queue
+    element-copy-out-read-queue
+    read-queue-requires
     mailbox-named-requires
     cell-of-requires-4
-    mul-mailbox
-    element-copy-out-mailbox
+    mul-read-mailbox
+    element-copy-out-read-mailbox
+    read-mailbox-requires
     see-task-requires
     see-task-requires-2
     see-queue-requires

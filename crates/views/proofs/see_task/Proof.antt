@@ -1,6 +1,7 @@
--- `see_task` shows what a task's cell says where the number is valid, and nothing elsewhere.
+-- `see_task` shows what a task's cells are read as where the number is valid, by the laws of reading, and nothing elsewhere.
 use mathlib.Core.Path.{sym, _∙_}
 use borrow.Author.Tests.{not-true, not-false}
+use Rattle.cells.specs.Tasks.{read-task}
 use Rattle.views.proofs.Laws.{no-task-seen, task-seen}
 use borrow.Author.Needs.{needs}
 use Rattle.views.proofs.see_task.Statement.{statement}
@@ -13,14 +14,11 @@ is-valid-requires : tie.Need-is-valid-requires
 is-valid-requires c κs = search needs
 
 returns : tie.Need-returns
-returns c = no-task-seen (c .before .before .args .number) (c .before .before .args .task) (sym (c .before .is-valid .ensures) ∙ not-true _ (c .if1 .taken))
-
-is-able-requires : tie.Need-is-able-requires
-is-able-requires c κs = search needs
+returns c = no-task-seen (c .before .before .args .number) (read-task (c .before .before .args .cells)) (sym (c .before .is-valid .ensures) ∙ not-true _ (c .if1 .taken))
 
 returns-2 : tie.Need-returns-2
-returns-2 c = task-seen (c .before .before .before .args .number) (c .before .before .before .args .task) (sym (c .before .before .is-valid .ensures) ∙ not-false _ (c .before .if1 .left)) (c .is-able .ensures)
+returns-2 c = task-seen (c .before .before .args .number) (c .before .before .args .cells) (sym (c .before .is-valid .ensures) ∙ not-false _ (c .if1 .left))
 
 pub see-task-spec : {M : Type 1} → statement M
 see-task-spec =
-    tie.close (tie.spec cast-is-valid is-valid-requires returns is-able-requires returns-2)
+    tie.close (tie.spec cast-is-valid is-valid-requires returns returns-2)
