@@ -30,6 +30,9 @@ use Rattle.model.proofs.After.{after-return, after-put, after-free-messages}
 use Rattle.model.proofs.Standing.{put-twice}
 use Rattle.model.proofs.Step.{numbered}
 use Rattle.parts.specs.Chains.{message-chains}
+use Rattle.cells.specs.Objects.{write-mailbox}
+use Rattle.cells.specs.declared.MailboxCells.{MailboxCells}
+use Rattle.cells.proofs.Faithful.{mailbox-written}
 use Rattle.record.specs.declared.State.{State}
 use Rattle.record.specs.declared.Step.{Step}
 use Rattle.record.specs.Meaning.{abs}
@@ -74,14 +77,15 @@ module _ {s : State} {c : Call} (a : Accepted 12 s c) where
   unfolding one-of exists
   not-yet = rw (the-mailbox-is a tt) at (exists-not (passed a) tt)
 
-  pub created : {ranked : Bool} {highest : ℕ} → ranked ≡ messages-by-priority (c .attribute) → highest ≡ cond ranked (highest-of c) 0
-      → Performs cre-mbx s c (record { state = with-mailbox (c .object) (record { defined = true; attribute = c .attribute; highest = highest }) s; answer = finished E-OK 0 0 0 })
-  created ranked-is e =
+  pub created : {ranked : Bool} {highest : ℕ} {y : MailboxCells} → ranked ≡ messages-by-priority (c .attribute) → highest ≡ cond ranked (highest-of c) 0
+      → y ≡ write-mailbox (record { defined = true; attribute = c .attribute; highest = highest })
+      → Performs cre-mbx s c (record { state = with-mailbox (c .object) y s; answer = finished E-OK 0 0 0 })
+  created ranked-is e written =
       let none = rows-of (a .sound) .mailboxes (c .object) .undefined not-yet in
       let no-waiter = sym (standing-is s (waiters-of (c .object)) valid-new) ∙ none .0 in
       let no-message = sym (messages-are s (c .object) valid-new) ∙ none .1 in
       let row : _ ≡ cond (messages-by-priority (c .attribute)) (highest-of c) 0 = ap (λ h. cond (messages-by-priority (c .attribute)) h 0) (rw ranked-is at e) ∙ kept-twice (messages-by-priority (c .attribute)) (highest-of c) in
-      does (after-put (after-return (rw (← row) (mailbox-put (a .sound .readable) (c .object) valid-new _ no-waiter no-message), refl)))
+      does (after-put (after-return (rw (← row) (mailbox-put (a .sound .readable) (c .object) valid-new _ no-waiter no-message (mailbox-written written)), refl)))
 
 -- ── 13 ──
 
@@ -103,13 +107,13 @@ module _ {s : State} {c : Call} (a : Accepted 13 s c) where
     pub messages-left : HasChain message-limit message-chains b (u .messages .link)
     messages-left = has-messages (waits-over .sound .readable) b (valid-number on-deleted)
 
-    pub deleted : {link : List ℕ} → Changed message-limit message-chains b (u .messages .link) link []
+    pub deleted : {link : List ℕ} {y : MailboxCells} → Changed message-limit message-chains b (u .messages .link) link [] → y ≡ write-mailbox (record { defined = false; attribute = 0; highest = 0 })
         → Performs del-mbx s c (record {
-          state = with-mailbox b (record { defined = false; attribute = 0; highest = 0 }) (laws.with-messages (record { link = link; key = u .messages .key }) u);
+          state = with-mailbox b y (laws.with-messages (record { link = link; key = u .messages .key }) u);
           answer = finished E-OK 0 0 0;
         })
     unfolding one-of
-    deleted d =
+    deleted d written =
         let valid-b = valid-number on-deleted in
         let freed = messages-cleared (waits-over .sound .readable) b valid-b d in
         let no-waiter = sym (standing-is u (waiters-of b) valid-b) ∙ waits-over .no-one in
@@ -117,7 +121,7 @@ module _ {s : State} {c : Call} (a : Accepted 13 s c) where
         (does-rest (waits-over .runs _) (waits-over .counter-is)
         (does (after-free-messages _ _ (abs u .rows) (after-put (after-return (
           meaning (ap (update same-key (mailbox b) no-mailbox) (freed .rows-are) ∙ put-twice (mailbox b) _ _ _)
-              (and-then freed (mailbox-put (freed .readable) b valid-b _ no-waiter (no-message-left (waits-over .sound .readable) b valid-b d))),
+              (and-then freed (mailbox-put (freed .readable) b valid-b _ no-waiter (no-message-left (waits-over .sound .readable) b valid-b d) (mailbox-written written))),
           refl,
         )))))))
 

@@ -26,8 +26,10 @@ use Rattle.model.proofs.RowMoves.{with-message-rows, freed}
 use Rattle.parts.specs.Chains.{message-chains, tasks-in, messages-in}
 use Rattle.parts.specs.Mailboxes.{mailbox-row}
 use Rattle.parts.specs.declared.Mailbox.{Mailbox}
+use Rattle.cells.specs.Objects.{read-mailbox}
+use Rattle.cells.specs.declared.MailboxCells.{MailboxCells}
 use Rattle.record.specs.declared.State.{State}
-use Rattle.record.specs.Meaning.{no-mailbox-cell, mailbox-at, mailbox-of, keeps-priorities, message-row, cells-of, abs}
+use Rattle.record.specs.Meaning.{no-mailbox-cells, mailbox-at, mailbox-of, keeps-priorities, message-row, cells-of, abs}
 use Rattle.record.specs.Sound.{Readable}
 use Rattle.record.specs.Step.{Becomes}
 use Rattle.record.proofs.Rows.{row-is}
@@ -38,7 +40,7 @@ use Rattle.record.proofs.Laws as laws
 -- ── The record's messages ──
 
 -- A message that stands where it stood, with the key that it had, has the row that it had. One that stands nowhere is free.
-module _ (mailboxes : List Mailbox) (key : List ℕ) (link link' : List ℕ) (g : ℕ) where
+module _ (mailboxes : List MailboxCells) (key : List ℕ) (link link' : List ℕ) (g : ℕ) where
   same-message : (key' : List ℕ) → mailbox-of link' g ≡ mailbox-of link g → getD key' g 0 ≡ getD key g 0 → message-row link' key' mailboxes g ≡ message-row link key mailboxes g
   same-message key' e f = rw (e, f) refl
 
@@ -183,34 +185,34 @@ module _ {s : State} (R : Readable s) (b : ℕ) (ok : T (valid (mailbox b))) whe
 
   -- ── A mailbox where nobody waits and no message is queued ──
 
-  module _ (x : Mailbox) (no-waiter : tasks-in (s .waiting .link) (waiters-of b) ≡ []) (no-message : messages-in (s .messages .link) b ≡ []) where
+  module _ (y : MailboxCells) (no-waiter : tasks-in (s .waiting .link) (waiters-of b) ≡ []) (no-message : messages-in (s .messages .link) b ≡ []) where
     mailbox-fits : b < length (s .mailboxes)
     mailbox-fits = let r = from-within 1 mailbox-limit b ok in let n = R .sizes .mailboxes in omega arith
 
-    new-mailbox : mailbox-at (with-mailbox b x s) b ≡ x
-    new-mailbox = getD-set-same (s .mailboxes) b x no-mailbox-cell mailbox-fits
+    new-mailbox : mailbox-at (with-mailbox b y s) b ≡ read-mailbox y
+    new-mailbox = ap read-mailbox (getD-set-same (s .mailboxes) b y no-mailbox-cells mailbox-fits)
 
-    other-mailboxes : (j : ℕ) → j ≢ b → mailbox-at (with-mailbox b x s) j ≡ mailbox-at s j
-    other-mailboxes j n = getD-set-other (s .mailboxes) b j x no-mailbox-cell n
+    other-mailboxes : (j : ℕ) → j ≢ b → mailbox-at (with-mailbox b y s) j ≡ mailbox-at s j
+    other-mailboxes j n = ap read-mailbox (getD-set-other (s .mailboxes) b j y no-mailbox-cells n)
 
     -- No message stands in it, so none is read with another attribute.
     not-here : (g : ℕ) → mailbox-of (s .messages .link) g ≢ b
     unfolding mailbox-of messages-in
     not-here g e = List·Memᴰ·not-nil (rw no-message at (stands-there g b _ e (has-messages .low)))
 
-    pub mailbox-put : Becomes s (update same-key (mailbox b) (mailbox-row x [] []) (abs s .rows)) (with-mailbox b x s)
-    mailbox-put = record {
-      rows-are = changed-row s (with-mailbox b x s) (mailbox b) _ ok (rw (new-mailbox, no-waiter, no-message) refl) others;
+    pub mailbox-put : {x : Mailbox} → read-mailbox y ≡ x → Becomes s (update same-key (mailbox b) (mailbox-row x [] []) (abs s .rows)) (with-mailbox b y s)
+    mailbox-put e = record {
+      rows-are = changed-row s (with-mailbox b y s) (mailbox b) _ ok (rw (new-mailbox, e, no-waiter, no-message) refl) others;
       counter-is = refl;
       readable = record {
-        sizes = record { tasks = R .sizes .tasks; queues = R .sizes .queues; mailboxes = length-set (s .mailboxes) b x ∙ R .sizes .mailboxes; task-keys = R .sizes .task-keys; message-keys = R .sizes .message-keys };
+        sizes = record { tasks = R .sizes .tasks; queues = R .sizes .queues; mailboxes = length-set (s .mailboxes) b y ∙ R .sizes .mailboxes; task-keys = R .sizes .task-keys; message-keys = R .sizes .message-keys };
         waiting = R .waiting;
         messages = R .messages;
         rings = R .rings;
       };
     }
       where
-        others : (j : Key) → j ≢ mailbox b → T (valid j) → cells-of (with-mailbox b x s) j ≡ cells-of s j
+        others : (j : Key) → j ≢ mailbox b → T (valid j) → cells-of (with-mailbox b y s) j ≡ cells-of s j
         others (task t) n v = refl
         others (suspension t) n v = refl
         others (queue q) n v = refl

@@ -6,30 +6,33 @@ use Rattle.mailboxes.proofs.Bodies.{number-range, on-messages, message-
 use Rattle.mailboxes.proofs.queue_message.Statement.{statement}
 use Rattle.mailboxes.proofs.queue_message.Tie as tie
 
-mul-mailbox : tie.Need-mul-mailbox
-mul-mailbox c = search needs
+mul-read-mailbox : tie.Need-mul-read-mailbox
+mul-read-mailbox c = search needs
 
-element-copy-out-mailbox : tie.Need-element-copy-out-mailbox
-element-copy-out-mailbox c = let h = number-range (c .pre .on) in omega arith
+element-copy-out-read-mailbox : tie.Need-element-copy-out-read-mailbox
+element-copy-out-read-mailbox c = let h = number-range (c .pre .on) in omega arith
+
+read-mailbox-requires : tie.Need-read-mailbox-requires
+read-mailbox-requires c κs = search needs
 
 ranks-messages-requires : tie.Need-ranks-messages-requires
 ranks-messages-requires c κs = search needs
 
 kept-requires : tie.Need-kept-requires
-kept-requires c κs = rank-fits (c .before .before .pre) (c .ranks-messages .ensures)
+kept-requires c κs = rank-fits (c .before .before .before .pre) (rw (c .before .read-mailbox .ensures) at (c .ranks-messages .ensures))
 
 limit-requires : tie.Need-limit-requires
 limit-requires c κs = search needs
 
 array-write-key : tie.Need-array-write-key
-array-write-key c = let h = message-range (c .before .before .before .before .before .before .pre) in omega arith
+array-write-key c = let h = message-range (c .before .before .before .before .before .before .before .pre) in omega arith
 
 insert-requires : tie.Need-insert-requires
-insert-requires c κs = queue-insertable (c .before .before .before .before .before .before .before .before .pre) _
+insert-requires c κs = queue-insertable (c .before .before .before .before .before .before .before .before .before .pre) _
 
 cast-finished : tie.Need-cast-finished
 cast-finished c =
-    let start = c .before .before .before .before .before .before .before .before .before in
+    let start = c .before .before .before .before .before .before .before .before .before .before in
     let h = inserted-place (c .insert .ensures) (on-messages (start .pre .on)) in
     omega arith
 
@@ -41,14 +44,15 @@ returns c =
     let limited = c .before .before .before .before .before .before in
     let ranked = limited .before .before in
     rw (c .finished .ensures)
-    (queued (ranked .before .before .pre) (ranked .ranks-messages .ensures) (limited .before .kept .ensures) (limited .limit .ensures) (c .before .insert .ensures))
+    (queued (ranked .before .before .before .pre) (rw (ranked .before .read-mailbox .ensures) at (ranked .ranks-messages .ensures)) (limited .before .kept .ensures) (limited .limit .ensures) (c .before .insert .ensures))
 
 pub queue-message-spec : {M : Type 1} → statement M
 queue-message-spec =
     tie.close
     (tie.spec
-    mul-mailbox
-    element-copy-out-mailbox
+    mul-read-mailbox
+    element-copy-out-read-mailbox
+    read-mailbox-requires
     ranks-messages-requires
     kept-requires
     limit-requires

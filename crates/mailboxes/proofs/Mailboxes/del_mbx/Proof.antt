@@ -18,17 +18,20 @@ end-waits-requires c κs = waiters-clearable (c .before .before .pre)
 clear-requires : tie.Need-clear-requires
 clear-requires c κs = messages-left (c .before .before .before .before .before .pre) (c .before .before .end-waits .ensures)
 
-mul-t9 : tie.Need-mul-t9
-mul-t9 c = search needs
+write-mailbox-requires : tie.Need-write-mailbox-requires
+write-mailbox-requires c κs = search needs
+
+mul-t10 : tie.Need-mul-t10
+mul-t10 c = search needs
 
 element-set-from-state : tie.Need-element-set-from-state
-element-set-from-state c = let h = number-range (on-deleted (c .before .before .before .before .before .before .pre)) in omega arith
+element-set-from-state c = let h = number-range (on-deleted (c .before .before .before .before .before .before .before .pre)) in omega arith
 
 finished-requires : tie.Need-finished-requires
 finished-requires c κs = search needs
 
 returns : tie.Need-returns
-returns c = rw (c .finished .ensures) (deleted (c .before .before .before .before .before .before .before .pre) (c .before .before .before .before .end-waits .ensures) (c .before .clear .ensures))
+returns c = rw (c .finished .ensures) (deleted (c .before .before .before .before .before .before .before .before .pre) (c .before .before .before .before .before .end-waits .ensures) (c .before .before .clear .ensures) (c .before .write-mailbox .ensures))
 
 pub del-mbx-spec : {M : Type 1} → statement M
 del-mbx-spec =
@@ -38,7 +41,8 @@ del-mbx-spec =
     add-end-waits
     end-waits-requires
     clear-requires
-    mul-t9
+    write-mailbox-requires
+    mul-t10
     element-set-from-state
     finished-requires
     returns)
