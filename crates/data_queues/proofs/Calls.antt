@@ -28,6 +28,9 @@ use Rattle.model.proofs.After.{after-return, after-put}
 use Rattle.model.proofs.Tests.{only-left, neither-left}
 use Rattle.model.proofs.Step.{numbered}
 use Rattle.model.proofs.Checked.{queue-attribute, queue-capacity, exists-not, exists-already, something-to-drop}
+use Rattle.cells.specs.Objects.{write-queue}
+use Rattle.cells.specs.declared.QueueCells.{QueueCells}
+use Rattle.cells.proofs.Faithful.{queue-written}
 use Rattle.record.specs.declared.State.{State}
 use Rattle.record.specs.declared.Step.{Step}
 use Rattle.record.specs.Meaning.{queue-at, abs}
@@ -135,11 +138,11 @@ module _ {s : State} {c : Call} where
       let u = rows-of (a .sound) .queues (c .object) .undefined missing in
       (u .1, u .2)
 
-  pub creates-queue : (a : Accepted 2 s c) {y : Answer} {r : Ring} → ring.Empty (c .value) r → y ≡ finished E-OK 0 0 0
-      → Performs cre-dtq s c (record { state = with-queue (c .object) (record { defined = true; attribute = c .attribute; ring = r }) s; answer = y })
-  creates-queue a e ok = does (after-put (after-return (
+  pub creates-queue : (a : Accepted 2 s c) {y : Answer} {r : Ring} {cells : QueueCells} → cells ≡ write-queue (record { defined = true; attribute = c .attribute; ring = r })
+      → ring.Empty (c .value) r → y ≡ finished E-OK 0 0 0 → Performs cre-dtq s c (record { state = with-queue (c .object) cells s; answer = y })
+  creates-queue a {cells = cells} f e ok = does (after-put (after-return (
     meaning (ap (λ (x : QueueRow). update same-key (queue (c .object)) x (abs s .rows)) (rw (none-before a .0, none-before a .1, e .words-are, e .kept .capacity-is) refl))
-        (queue-changed (a .sound .readable) (c .object) (created a .2) _ (λ d. e .kept .in-range)),
+        (queue-changed (a .sound .readable) (c .object) (created a .2) cells (queue-written f) (λ d. e .kept .in-range)),
     ok,
   )))
 
@@ -152,10 +155,11 @@ module _ {s : State} {c : Call} where
   refers-at a = already a tt tt (λ t. t)
 
   -- The waits end, and what is left of the program makes the queue undefined.
-  pub deletes-queue : (a : Accepted 3 s c) {u w : State} {y : Answer} {r : Ring} → AllEnded s (c .object) E-DLT u → AllEnded u (16 + c .object) E-DLT w → ring.Empty 0 r → y ≡ finished E-OK 0 0 0
-      → Performs del-dtq s c (record { state = with-queue (c .object) (record { defined = false; attribute = 0; ring = r }) w; answer = y })
+  pub deletes-queue : (a : Accepted 3 s c) {u w : State} {y : Answer} {r : Ring} {cells : QueueCells} → cells ≡ write-queue (record { defined = false; attribute = 0; ring = r })
+      → AllEnded s (c .object) E-DLT u → AllEnded u (16 + c .object) E-DLT w → ring.Empty 0 r → y ≡ finished E-OK 0 0 0
+      → Performs del-dtq s c (record { state = with-queue (c .object) cells w; answer = y })
   unfolding one-of
-  deletes-queue a {u} {w} {y} {r} e f none ok = performs a del-dtq (rw (the-queue-is a tt) (does-rest run-is (B .counter-is ∙ A .counter-is) (does (after-put (after-return (b, ok))))))
+  deletes-queue a {u} {w} {y} {r} {cells} written e f none ok = performs a del-dtq (rw (the-queue-is a tt) (does-rest run-is (B .counter-is ∙ A .counter-is) (does (after-put (after-return (b, ok))))))
     where
       q : ℕ
       q = c .object
@@ -179,9 +183,9 @@ module _ {s : State} {c : Call} where
       no-sender : abs w .rows (queue q) .senders ≡ []
       no-sender = B .others (senders-of q) (λ z. differ (sym z)) ∙ A .no-one
 
-      b : Becomes w (update same-key (queue q) no-queue (abs w .rows)) (with-queue q (record { defined = false; attribute = 0; ring = r }) w)
+      b : Becomes w (update same-key (queue q) no-queue (abs w .rows)) (with-queue q cells w)
       b = meaning (ap (λ (x : QueueRow). update same-key (queue q) x (abs w .rows)) (rw (no-sender, B .no-one, none .words-are) refl))
-          (queue-changed (B .sound .readable) q (deletes-at a .valid-queue) _ (λ d. absurd d))
+          (queue-changed (B .sound .readable) q (deletes-at a .valid-queue) cells (queue-written written) (λ d. absurd d))
 
   pub refers-to-queue : (a : Accepted 11 s c) {sender receiver count : ℕ} {y : Answer} → y ≡ finished E-OK sender receiver count
       → sender ≡ headD (chain-list s (c .object)) 0 → receiver ≡ headD (chain-list s (16 + c .object)) 0 → count ≡ length (stored (queue-at s (c .object) .ring))

@@ -1,4 +1,4 @@
--- `cre_dtq` writes a new cell, at which nobody waits.
+-- `cre_dtq` writes new cells, at which nobody waits.
 use native.Mathlib.Omega.{arith}
 use Rattle.model.proofs.Tests.{from-within}
 use Rattle.data_queues.proofs.Calls.{created, creates-queue}
@@ -15,20 +15,23 @@ cast-new c = let h = created (c .before .before .before .pre) .1 in omega arith
 new-requires : tie.Need-new-requires
 new-requires c κs = created (c .before .before .before .pre) .1
 
-cast-t7 : tie.Need-cast-t7
-cast-t7 c = let h = created (c .before .before .before .before .before .pre) .0 in omega arith
+cast-t8 : tie.Need-cast-t8
+cast-t8 c = let h = created (c .before .before .before .before .before .pre) .0 in omega arith
 
-mul-t9 : tie.Need-mul-t9
-mul-t9 c = search needs
+write-queue-requires : tie.Need-write-queue-requires
+write-queue-requires c κs = tt
+
+mul-t10 : tie.Need-mul-t10
+mul-t10 c = search needs
 
 element-set-from-state : tie.Need-element-set-from-state
-element-set-from-state c = let h = from-within 1 16 (c .before .before .before .before .before .args .call .object) (created (c .before .before .before .before .before .pre) .2) in omega arith
+element-set-from-state c = let h = from-within 1 16 (c .before .before .before .before .before .before .args .call .object) (created (c .before .before .before .before .before .before .pre) .2) in omega arith
 
 finished-requires : tie.Need-finished-requires
 finished-requires c κs = search needs
 
 returns : tie.Need-returns
-returns c = creates-queue (c .before .before .before .before .before .before .pre) (c .before .before .new .ensures) (c .finished .ensures)
+returns c = creates-queue (c .before .before .before .before .before .before .before .pre) (c .before .write-queue .ensures) (c .before .before .before .new .ensures) (c .finished .ensures)
 
 pub cre-dtq-spec : {M : Type 1} → statement M
 cre-dtq-spec =
@@ -37,8 +40,9 @@ cre-dtq-spec =
     cast-q
     cast-new
     new-requires
-    cast-t7
-    mul-t9
+    cast-t8
+    write-queue-requires
+    mul-t10
     element-set-from-state
     finished-requires
     returns)

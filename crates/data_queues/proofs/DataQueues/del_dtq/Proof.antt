@@ -1,6 +1,6 @@
 -- `del_dtq` ends all waits, then makes the queue undefined.
 use Rattle.model.specs.WellFormed.{senders-of}
-use Rattle.queue_bodies.proofs.Laws.{queue-fits, on-senders, on-receivers, senders-chain}
+use Rattle.queue_bodies.proofs.Laws.{queue-fits, queue-offset, on-senders, on-receivers, senders-chain}
 use Rattle.data_queues.proofs.Calls.{deletes-at, deletes-queue}
 use borrow.Author.Needs.{needs}
 use Rattle.data_queues.proofs.DataQueues.del_dtq.Statement.{statement}
@@ -21,17 +21,20 @@ end-waits-requires-2 c κs = let a = deletes-at (c .before .before .before .pre)
 new-requires : tie.Need-new-requires
 new-requires c κs = search needs
 
-mul-t11 : tie.Need-mul-t11
-mul-t11 c = search needs
+write-queue-requires : tie.Need-write-queue-requires
+write-queue-requires c κs = tt
+
+mul-t12 : tie.Need-mul-t12
+mul-t12 c = queue-offset (deletes-at (c .before .before .before .before .before .before .pre))
 
 element-set-from-alone : tie.Need-element-set-from-alone
-element-set-from-alone c = queue-fits (deletes-at (c .before .before .before .before .before .pre))
+element-set-from-alone c = queue-fits (deletes-at (c .before .before .before .before .before .before .pre))
 
 finished-requires : tie.Need-finished-requires
 finished-requires c κs = search needs
 
 returns : tie.Need-returns
-returns c = deletes-queue (c .before .before .before .before .before .before .pre) (c .before .before .before .end-waits .ensures) (c .before .before .end-waits2 .ensures) (c .before .new .ensures) (c .finished .ensures)
+returns c = deletes-queue (c .before .before .before .before .before .before .before .pre) (c .before .write-queue .ensures) (c .before .before .before .before .end-waits .ensures) (c .before .before .before .end-waits2 .ensures) (c .before .before .new .ensures) (c .finished .ensures)
 
 pub del-dtq-spec : {M : Type 1} → statement M
 del-dtq-spec =
@@ -42,7 +45,8 @@ del-dtq-spec =
     add-end-waits
     end-waits-requires-2
     new-requires
-    mul-t11
+    write-queue-requires
+    mul-t12
     element-set-from-alone
     finished-requires
     returns)

@@ -19,11 +19,14 @@ add-first c = let h = queue-range (refers-at (c .before .before .before .before 
 first-requires-2 : tie.Need-first-requires-2
 first-requires-2 c κs = has-chain (on-receivers (refers-at (c .before .before .before .before .before .before .before .pre)))
 
-mul-queue : tie.Need-mul-queue
-mul-queue c = queue-offset (refers-at (c .before .before .before .before .before .before .before .before .pre))
+mul-read-queue : tie.Need-mul-read-queue
+mul-read-queue c = queue-offset (refers-at (c .before .before .before .before .before .before .before .before .pre))
 
-element-copy-out-queue : tie.Need-element-copy-out-queue
-element-copy-out-queue c = queue-fits (refers-at (c .before .before .before .before .before .before .before .before .pre))
+element-copy-out-read-queue : tie.Need-element-copy-out-read-queue
+element-copy-out-read-queue c = queue-fits (refers-at (c .before .before .before .before .before .before .before .before .pre))
+
+read-queue-requires : tie.Need-read-queue-requires
+read-queue-requires c κs = tt
 
 length-requires : tie.Need-length-requires
 length-requires c κs = search needs
@@ -41,7 +44,7 @@ finished-requires : tie.Need-finished-requires
 finished-requires c κs = search needs
 
 returns : tie.Need-returns
-returns c = refers-to-queue (c .before .before .before .before .before .before .before .before .before .before .before .pre) (c .finished .ensures) (c .before .before .before .before .before .before .first .ensures) (c .before .before .before .first2 .ensures) (c .before .length .ensures)
+returns c = refers-to-queue (c .before .before .before .before .before .before .before .before .before .before .before .before .pre) (c .finished .ensures) (c .before .before .before .before .before .before .before .first .ensures) (c .before .before .before .before .first2 .ensures) (rw (c .before .before .read-queue .ensures) at (c .before .length .ensures))
 
 pub ref-dtq-spec : {M : Type 1} → statement M
 ref-dtq-spec =
@@ -51,8 +54,9 @@ ref-dtq-spec =
     first-requires
     add-first
     first-requires-2
-    mul-queue
-    element-copy-out-queue
+    mul-read-queue
+    element-copy-out-read-queue
+    read-queue-requires
     length-requires
     cast-finished
     cast-finished-2
