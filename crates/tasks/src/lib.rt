@@ -6,6 +6,7 @@ ghost use Rattle.rows.specs.Program.{update};
 ghost use Rattle.model.specs.Rows.{task, suspension, same-key, valid};
 ghost use Rattle.model.specs.Tasks.{define-task, rel-wai, sus-tsk, rsm-tsk, look, fetch};
 ghost use Rattle.model.specs.Waits.{wait-number, wait-object, wait-end, due};
+ghost use Rattle.cells.specs.Tasks.{read-task};
 ghost use Rattle.record.specs.Meaning.{abs};
 ghost use Rattle.record.specs.Sound.{Readable, Sound};
 ghost use Rattle.record.specs.Step.{Becomes, Accepted, Performs};

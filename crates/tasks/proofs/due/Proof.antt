@@ -1,21 +1,10 @@
--- `due` compares an end tick with the counter: by the cases of the end.
-use mathlib.Core.Path.{sym, ap}
-use borrow.Author.Needs.{needs}
-use Rattle.model.specs.Waits.{due}
+-- `due` reads the wait's numbers: what they are read as ends at this tick exactly where the four tests pass.
+use Rattle.tasks.proofs.Laws.{due-by-numbers}
 use Rattle.tasks.proofs.due.Statement.{statement}
 use Rattle.tasks.proofs.due.Tie as tie
 
-enum-told : tie.Need-enum-told
-enum-told c = search needs
-
-enum-known-end : tie.Need-enum-known-end
-enum-known-end c = search needs
-
 returns : tie.Need-returns
-returns c = search needs
-
-returns-2 : tie.Need-returns-2
-returns-2 c = sym (ap (due _) (c .before .end .given .1))
+returns c = due-by-numbers (c .args .cells) (c .args .counter)
 
 pub due-spec : {M : Type 1} → statement M
-due-spec = tie.close (tie.spec enum-told enum-known-end returns returns-2)
+due-spec = tie.close (tie.spec returns)

@@ -16,18 +16,21 @@ element-write-waiting : tie.Need-element-write-waiting
 unfolding one-of
 element-write-waiting c = let h = object-range (c .before .before .before .before .pre) tt in omega arith
 
-mul-t14 : tie.Need-mul-t14
-mul-t14 c = search needs
+write-task-requires : tie.Need-write-task-requires
+write-task-requires c κs = search needs
+
+mul-t15 : tie.Need-mul-t15
+mul-t15 c = search needs
 
 element-set-from-state : tie.Need-element-set-from-state
 unfolding one-of
-element-set-from-state c = let h = object-range (c .before .before .before .before .pre) tt in omega arith
+element-set-from-state c = let h = object-range (c .before .before .before .before .before .pre) tt in omega arith
 
 finished-requires : tie.Need-finished-requires
 finished-requires c κs = search needs
 
 returns : tie.Need-returns
-returns c = task-defined (c .before .before .before .before .before .pre) (c .finished .ensures)
+returns c = task-defined (c .before .before .before .before .before .before .pre) (c .before .write-task .ensures) (c .finished .ensures)
 
 pub define-task-spec : {M : Type 1} → statement M
 define-task-spec =
@@ -36,7 +39,8 @@ define-task-spec =
     cast-t
     cast-waiting
     element-write-waiting
-    mul-t14
+    write-task-requires
+    mul-t15
     element-set-from-state
     finished-requires
     returns)

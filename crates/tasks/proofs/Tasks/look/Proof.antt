@@ -1,4 +1,4 @@
--- `look` answers what the task's cell says: the call has that cell in view.
+-- `look` answers what the task's cells are read as: the call has that task in view.
 use native.Mathlib.Omega.{arith}
 use borrow.Author.Needs.{needs}
 use Rattle.lists.specs.Lists.{one-of}
@@ -9,12 +9,15 @@ use Rattle.tasks.proofs.Tasks.look.Tie as tie
 cast-t : tie.Need-cast-t
 cast-t c = search needs
 
-mul-task : tie.Need-mul-task
-mul-task c = search needs
+mul-read-task : tie.Need-mul-read-task
+mul-read-task c = search needs
 
-element-copy-out-task : tie.Need-element-copy-out-task
+element-copy-out-read-task : tie.Need-element-copy-out-read-task
 unfolding one-of
-element-copy-out-task c = let h = object-range (c .before .before .pre) tt in omega arith
+element-copy-out-read-task c = let h = object-range (c .before .before .pre) tt in omega arith
+
+read-task-requires : tie.Need-read-task-requires
+read-task-requires c κs = search needs
 
 wait-number-requires : tie.Need-wait-number-requires
 wait-number-requires c κs = search needs
@@ -29,15 +32,18 @@ finished-requires : tie.Need-finished-requires
 finished-requires c κs = search needs
 
 returns : tie.Need-returns
-returns c = wait-looked-at (c .before .before .before .before .before .before .before .pre) (c .before .before .before .wait-number .ensures) (c .before .before .wait-object .ensures) (c .finished .ensures)
+returns c =
+    let read = c .before .before .before .before .read-task .ensures in
+    wait-looked-at (c .before .before .before .before .before .before .before .before .pre) read (c .before .before .before .wait-number .ensures) (c .before .before .wait-object .ensures) (c .finished .ensures)
 
 pub look-spec : {M : Type 1} → statement M
 look-spec =
     tie.close
     (tie.spec
     cast-t
-    mul-task
-    element-copy-out-task
+    mul-read-task
+    element-copy-out-read-task
+    read-task-requires
     wait-number-requires
     wait-object-requires
     cast-finished

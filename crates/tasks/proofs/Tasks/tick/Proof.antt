@@ -23,44 +23,40 @@ loop-holds c = ticking-begins (c .before .before .pre) (c .wrapping-add-u32 .ens
 cast-loop : tie.Need-cast-loop Inv-loop μ-loop
 cast-loop c = search needs
 
-cast-task : tie.Need-cast-task Inv-loop μ-loop
-cast-task c = search needs
+cast-cells : tie.Need-cast-cells Inv-loop μ-loop
+cast-cells c = search needs
 
-mul-task : tie.Need-mul-task Inv-loop μ-loop
-mul-task c = search needs
+mul-cells : tie.Need-mul-cells Inv-loop μ-loop
+mul-cells c = search needs
 
-element-copy-out-task : tie.Need-element-copy-out-task Inv-loop μ-loop
-element-copy-out-task c = let h = c .loop-test .taken in omega arith
-
-wait-end-requires : tie.Need-wait-end-requires Inv-loop μ-loop
-wait-end-requires c κs = search needs
+element-copy-out-cells : tie.Need-element-copy-out-cells Inv-loop μ-loop
+element-copy-out-cells c = let h = c .loop-test .taken in omega arith
 
 due-requires : tie.Need-due-requires Inv-loop μ-loop
 due-requires c κs = search needs
 
 end-wait-requires : tie.Need-end-wait-requires Inv-loop μ-loop
 end-wait-requires c κs =
-    let h = c .before .before .before .before .loop-test .taken in
-    turn-endable (c .before .before .before .before .before .loop .inv) (omega arith) (rw (← c .before .before .wait-end .ensures, ← c .before .due .ensures) (c .if1 .taken))
+    let h = c .before .before .before .loop-test .taken in
+    turn-endable (c .before .before .before .before .loop .inv) (omega arith) (rw (← c .before .due .ensures) (c .if1 .taken))
 
 add-count : tie.Need-add-count Inv-loop μ-loop
-add-count c = let i = c .before .before .before .before .before .before .loop .inv in let f = i .few in let h = i .high in omega arith
+add-count c = let i = c .before .before .before .before .before .loop .inv in let f = i .few in let h = i .high in omega arith
 
 add-t : tie.Need-add-t Inv-loop μ-loop
-add-t c = let h = c .before .before .before .before .before .loop .inv .high in omega arith
+add-t c = let h = c .before .before .before .before .loop .inv .high in omega arith
 
 loop-less : tie.Need-loop-less Inv-loop μ-loop
-loop-less c = let h = c .before .before .before .before .loop-test .taken in omega arith
+loop-less c = let h = c .before .before .before .loop-test .taken in omega arith
 
 loop-again : tie.Need-loop-again Inv-loop μ-loop
 loop-again c =
-    let i = c .before .before .before .before .before .loop .inv in
-    let h = c .before .before .before .before .loop-test .taken in
-    let end = c .before .before .wait-end .ensures in
+    let i = c .before .before .before .before .loop .inv in
+    let h = c .before .before .before .loop-test .taken in
     let test = c .before .due .ensures in
     ⊎-elim
-    (λ w. rw (w .2, w .3) (turn-ends i (omega arith) (rw (← end, ← test) (w .0 .taken)) (w .1 .ensures)))
-    (λ w. rw (w .1, w .2) (turn-passes i (omega arith) (rw (← end, ← test) (w .0 .left))))
+    (λ w. rw (w .2, w .3) (turn-ends i (omega arith) (rw (← test) (w .0 .taken)) (w .1 .ensures)))
+    (λ w. rw (w .1, w .2) (turn-passes i (omega arith) (rw (← test) (w .0 .left))))
     (c .if1 .came)
 
 finished-requires : tie.Need-finished-requires Inv-loop μ-loop
@@ -78,10 +74,9 @@ tick-spec =
     wrapping-add-u32-requires
     loop-holds
     cast-loop
-    cast-task
-    mul-task
-    element-copy-out-task
-    wait-end-requires
+    cast-cells
+    mul-cells
+    element-copy-out-cells
     due-requires
     end-wait-requires
     add-count
