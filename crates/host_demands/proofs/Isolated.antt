@@ -5,17 +5,16 @@ use mathlib.Core.List.{List, [], _∷_, map}
 use Rattle.lists.specs.Lists.{Each, none, both}
 use Rattle.rows.specs.Merge.{Merge, done, left, right}
 use Rattle.rows.specs.Merges.{keep-if, share, MergeOf}
+use Rattle.record.specs.declared.State.{State}
 use Rattle.record.specs.Equal.{SameState}
 use Rattle.record.specs.Sound.{Sound}
 use Rattle.demands.specs.Runs.{Run, RunOfTurns}
 use Rattle.demands.specs.Isolated.{Undisturbed, AllUndisturbed}
 use Rattle.demands.proofs.Isolated.{isolated, isolated-from-empty, isolated-many}
-use Rattle.host_parts.specs.Calls.{call-of, answer-of}
-use Rattle.host_parts.specs.declared.HostCall.{HostCall}
-use Rattle.host_record.specs.declared.HostRecord.{HostRecord}
-use Rattle.host_record.specs.Record.{state-of, HostSound}
+use Rattle.host_calls.specs.Calls.{call-of, answer-of}
+use Rattle.host_calls.specs.declared.HostCall.{HostCall}
 use Rattle.host_demands.specs.Runs.{HostRun}
-use Rattle.host_demands.specs.Isolated.{HostSame, IsolatedThroughEntry, IsolatedManyThroughEntry, IsolatedForHosts, IsolatedForHostsFromEmpty, IsolatedManyForHosts}
+use Rattle.host_demands.specs.Isolated.{IsolatedThroughEntry, IsolatedManyThroughEntry, IsolatedForHosts, IsolatedForHostsFromEmpty, IsolatedManyForHosts}
 use Rattle.host_demands.proofs.Runs.{entry-run, entry-turns, run-of-states, each-turn, turns-of-states}
 
 pub isolated-through-entry : IsolatedThroughEntry
@@ -46,7 +45,7 @@ each-read : {X Y : Type 0} {f : X → Y} (P : Y → Type 0) {l : List X} → Eac
 each-read P none = none
 each-read P (both p ps) = both p (each-read P ps)
 
-undisturbed : (r : HostRecord) → HostSound r → (xs ys : List HostCall) → Undisturbed Run SameState Sound (state-of r) (map call-of xs) (map call-of ys) → Undisturbed HostRun HostSame HostSound r xs ys
+undisturbed : (r : State) → Sound r → (xs ys : List HostCall) → Undisturbed Run SameState Sound r (map call-of xs) (map call-of ys) → Undisturbed HostRun SameState Sound r xs ys
 undisturbed r S xs ys h = record {
   answers-alone = λ m p q o.
       let x = run-of-states S p in
@@ -59,11 +58,11 @@ undisturbed r S xs ys h = record {
 
 pub isolated-for-hosts : IsolatedForHosts
 isolated-for-hosts r S a b apart placed-a placed-b xs ys own-a own-b =
-    undisturbed r S xs ys (isolated (state-of r) S a b apart placed-a placed-b (map call-of xs) (map call-of ys) (each-read _ own-a) (each-read _ own-b))
+    undisturbed r S xs ys (isolated r S a b apart placed-a placed-b (map call-of xs) (map call-of ys) (each-read _ own-a) (each-read _ own-b))
 
 pub isolated-for-hosts-from-empty : IsolatedForHostsFromEmpty
 isolated-for-hosts-from-empty r S counter e a b apart xs ys own-a own-b =
-    undisturbed r S xs ys (isolated-from-empty (state-of r) S counter e a b apart (map call-of xs) (map call-of ys) (each-read _ own-a) (each-read _ own-b))
+    undisturbed r S xs ys (isolated-from-empty r S counter e a b apart (map call-of xs) (map call-of ys) (each-read _ own-a) (each-read _ own-b))
 
 -- What of the turns is an owner's is what f makes of the owner's share.
 share-each : {I X Y : Type 0} (same-owner : Discrete I) (f : X → Y) (i : I) (turns : List (I × X)) → share same-owner i (each-turn f turns) ≡ map f (share same-owner i turns)
@@ -88,5 +87,5 @@ isolated-many-for-hosts I same-owner r S o lists placed own = record {
   one-end = λ {turns} {turns′} m n p q. h .one-end (merge-each same-owner turns m) (merge-each same-owner turns′ n) (turns-of-states S p .run) (turns-of-states S q .run);
 }
   where
-    h : AllUndisturbed same-owner Run RunOfTurns SameState (state-of r) (λ i. map call-of (lists i))
-    h = isolated-many I same-owner (state-of r) S o (λ i. map call-of (lists i)) (λ i some. placed i (λ e. some (ap (map call-of) e))) (λ i. each-read _ (own i))
+    h : AllUndisturbed same-owner Run RunOfTurns SameState r (λ i. map call-of (lists i))
+    h = isolated-many I same-owner r S o (λ i. map call-of (lists i)) (λ i some. placed i (λ e. some (ap (map call-of) e))) (λ i. each-read _ (own i))

@@ -7,12 +7,11 @@ use Rattle.record.specs.declared.State.{State}
 use Rattle.demands.specs.Runs as Runs
 use Rattle.demands.specs.Runs.{Run, RunOfTurns}
 use Rattle.entry.specs.Entered.{Entered}
-use Rattle.host_parts.specs.Calls.{call-of, answer-of}
-use Rattle.host_parts.specs.declared.HostAnswer.{HostAnswer}
-use Rattle.host_parts.specs.declared.HostCall.{HostCall}
-use Rattle.host_record.specs.declared.HostRecord.{HostRecord}
-use Rattle.host_record.specs.Record.{state-of, HostSound}
-use Rattle.host_record.proofs.Sound.{step-of-state}
+use Rattle.host_calls.specs.Calls.{call-of, answer-of}
+use Rattle.host_calls.specs.declared.HostAnswer.{HostAnswer}
+use Rattle.host_calls.specs.declared.HostCall.{HostCall}
+use Rattle.record.specs.Sound.{Sound}
+use Rattle.host_step.proofs.Steps.{step-of-kernel}
 use Rattle.linguastel.specs.Called.{Called}
 use Rattle.host_demands.specs.Runs.{no-call, one-call, LentRunOfTurns, no-turn, one-turn, EntryRun, HostRun}
 
@@ -25,18 +24,18 @@ entry-turns no-turn = Runs.no-turn
 entry-turns (one-turn h rest) = Runs.one-turn h (entry-turns rest)
 
 -- The run of the states, and its answers, of which the host has the numbers.
-pub record RunOfStates (r : HostRecord) (calls : List HostCall) (last : HostRecord) (answers : List HostAnswer) : Type 0 where
+pub record RunOfStates (r : State) (calls : List HostCall) (last : State) (answers : List HostAnswer) : Type 0 where
   pub given : List Answer
-  pub run : Run (state-of r) (map call-of calls) (state-of last) given
+  pub run : Run r (map call-of calls) last given
   pub answers-are : answers ≡ map answer-of given
 
 cons-≡ : {X : Type 0} {x y : X} {xs ys : List X} → x ≡ y → xs ≡ ys → x ∷ xs ≡ y ∷ ys
 cons-≡ e es = λ i. e i ∷ es i
 
-pub run-of-states : {r last : HostRecord} {calls : List HostCall} {answers : List HostAnswer} → HostSound r → HostRun r calls last answers → RunOfStates r calls last answers
+pub run-of-states : {r last : State} {calls : List HostCall} {answers : List HostAnswer} → Sound r → HostRun r calls last answers → RunOfStates r calls last answers
 run-of-states S no-call = record { given = []; run = Runs.no-call; answers-are = refl }
 run-of-states S (one-call {answer = answer} h rest) =
-    let k = step-of-state h S in
+    let k = step-of-kernel h S in
     let others = run-of-states (k .sound) rest in
     record { given = k .answer ∷ others .given; run = Runs.one-call (k .steps) (others .run); answers-are = cons-≡ (k .answer-is) (others .answers-are) }
 
@@ -45,15 +44,15 @@ unfoldable pub each-turn : {I X Y : Type 0} → (X → Y) → List (I × X) → 
 each-turn f [] = []
 each-turn f (turn ∷ turns) = (turn .0, f (turn .1)) ∷ each-turn f turns
 
-pub record TurnsOfStates {I : Type 0} (r : HostRecord) (turns : List (I × HostCall)) (last : HostRecord) (answers : List (I × HostAnswer)) : Type 0 where
+pub record TurnsOfStates {I : Type 0} (r : State) (turns : List (I × HostCall)) (last : State) (answers : List (I × HostAnswer)) : Type 0 where
   pub given : List (I × Answer)
-  pub run : RunOfTurns (state-of r) (each-turn call-of turns) (state-of last) given
+  pub run : RunOfTurns r (each-turn call-of turns) last given
   pub answers-are : answers ≡ each-turn answer-of given
 
-pub turns-of-states : {I : Type 0} {r last : HostRecord} {turns : List (I × HostCall)} {answers : List (I × HostAnswer)} → HostSound r → LentRunOfTurns Called r turns last answers → TurnsOfStates r turns last answers
+pub turns-of-states : {I : Type 0} {r last : State} {turns : List (I × HostCall)} {answers : List (I × HostAnswer)} → Sound r → LentRunOfTurns Called r turns last answers → TurnsOfStates r turns last answers
 unfolding each-turn
 turns-of-states S no-turn = record { given = []; run = Runs.no-turn; answers-are = refl }
 turns-of-states S (one-turn {i = i} h rest) =
-    let k = step-of-state h S in
+    let k = step-of-kernel h S in
     let others = turns-of-states (k .sound) rest in
     record { given = (i, k .answer) ∷ others .given; run = Runs.one-turn (k .steps) (others .run); answers-are = cons-≡ (λ j. (i, k .answer-is j)) (others .answers-are) }

@@ -12,10 +12,8 @@ use Rattle.record.specs.Sound.{Sound}
 use Rattle.record.specs.Equal.{SameState}
 use Rattle.demands.specs.Isolated.{Undisturbed, AllUndisturbed}
 use Rattle.entry.specs.Entered.{Entered}
-use Rattle.host_parts.specs.Calls.{call-of}
-use Rattle.host_parts.specs.declared.HostCall.{HostCall}
-use Rattle.host_record.specs.declared.HostRecord.{HostRecord}
-use Rattle.host_record.specs.Record.{state-of, HostSound, meaning}
+use Rattle.host_calls.specs.Calls.{call-of}
+use Rattle.host_calls.specs.declared.HostCall.{HostCall}
 use Rattle.linguastel.specs.Called.{Called}
 use Rattle.host_demands.specs.Runs.{LentRunOfTurns, EntryRun, HostRun}
 
@@ -39,33 +37,29 @@ IsolatedManyThroughEntry =
 
 -- ── In the host's numbers ──
 
--- Two host's records are equal states when the states that they hold are.
-abbrev pub HostSame : HostRecord → HostRecord → Type 0
-HostSame r u = SameState (state-of r) (state-of u)
-
 -- A call in the carrier's list, as the kernel reads it.
 abbrev pub HostCallOf : Carrier → HostCall → Type 0
 HostCallOf a c = CallOf (Own a) (call-of c)
 
 abbrev pub IsolatedForHosts : Type 0
 IsolatedForHosts =
-    (r : HostRecord) → HostSound r
-    → (a b : Carrier) → Disjoint a b → Placed (Own a) (meaning r .rows) → Placed (Own b) (meaning r .rows)
+    (s : State) → Sound s
+    → (a b : Carrier) → Disjoint a b → Placed (Own a) (abs s .rows) → Placed (Own b) (abs s .rows)
     → (xs ys : List HostCall) → Each (HostCallOf a) xs → Each (HostCallOf b) ys
-    → Undisturbed HostRun HostSame HostSound r xs ys
+    → Undisturbed HostRun SameState Sound s xs ys
 
 -- From the record that `linguastel_empty` leaves, nothing more is asked of it.
 abbrev pub IsolatedForHostsFromEmpty : Type 0
 IsolatedForHostsFromEmpty =
-    (r : HostRecord) → HostSound r → (counter : ℕ) → meaning r ≡ empty-state counter
+    (s : State) → Sound s → (counter : ℕ) → abs s ≡ empty-state counter
     → (a b : Carrier) → Disjoint a b
     → (xs ys : List HostCall) → Each (HostCallOf a) xs → Each (HostCallOf b) ys
-    → Undisturbed HostRun HostSame HostSound r xs ys
+    → Undisturbed HostRun SameState Sound s xs ys
 
 abbrev pub IsolatedManyForHosts : Type 1
 IsolatedManyForHosts =
-    (I : Type 0) (same-owner : Discrete I) (r : HostRecord) → HostSound r
+    (I : Type 0) (same-owner : Discrete I) (s : State) → Sound s
     → (o : Owners I) (lists : I → List HostCall)
-    → ((i : I) → (lists i ≡ [] → ⊥) → Placed (OwnedBy o i) (meaning r .rows))
+    → ((i : I) → (lists i ≡ [] → ⊥) → Placed (OwnedBy o i) (abs s .rows))
     → ((i : I) → Each (λ c. CallOf (OwnedBy o i) (call-of c)) (lists i))
-    → AllUndisturbed same-owner HostRun (LentRunOfTurns Called) HostSame r lists
+    → AllUndisturbed same-owner HostRun (LentRunOfTurns Called) SameState s lists

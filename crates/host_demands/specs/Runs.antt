@@ -4,9 +4,8 @@ use Rattle.model.specs.declared.Answer.{Answer}
 use Rattle.model.specs.declared.Call.{Call}
 use Rattle.record.specs.declared.State.{State}
 use Rattle.entry.specs.Entered.{Entered}
-use Rattle.host_parts.specs.declared.HostAnswer.{HostAnswer}
-use Rattle.host_parts.specs.declared.HostCall.{HostCall}
-use Rattle.host_record.specs.declared.HostRecord.{HostRecord}
+use Rattle.host_calls.specs.declared.HostAnswer.{HostAnswer}
+use Rattle.host_calls.specs.declared.HostCall.{HostCall}
 use Rattle.linguastel.specs.Called.{Called}
 
 -- `Called before call after answer` is the contract of one call: it found the lent record as `before` and left it as `after`.
@@ -26,5 +25,5 @@ abbrev pub EntryRun : State → List Call → State → List Answer → Type 0
 EntryRun = LentRun Entered
 
 -- Through the function that hosts call, a call of number 0 being the tick.
-abbrev pub HostRun : HostRecord → List HostCall → HostRecord → List HostAnswer → Type 0
+abbrev pub HostRun : State → List HostCall → State → List HostAnswer → Type 0
 HostRun = LentRun Called

@@ -3,12 +3,13 @@
 ghost use mathlib.Core.Path.{_≡_};
 ghost use Rattle.lists.specs.Tests.{Whether};
 ghost use Rattle.model.specs.Rows.{empty-state};
-ghost use Rattle.host_record.specs.Record.{HostSound, meaning};
-ghost use Rattle.host_record.specs.Step.{tick-call};
+ghost use Rattle.record.specs.Meaning.{abs};
+ghost use Rattle.record.specs.Sound.{Sound};
+ghost use Rattle.host_step.specs.Step.{tick-call};
 ghost use Rattle.linguastel.specs.Called.{Called};
 ghost use Rattle.linguastel.specs.Layout.{record-size, record-align};
-use host_parts::HostAnswer;
-use host_parts::HostCall;
+use host_calls::HostAnswer;
+use host_calls::HostCall;
 use record::State;
 
 // The bytes of the record, and what its address has to be a multiple of.
@@ -29,7 +30,7 @@ pub extern "C" fn linguastel_record_align() -> usize
 // Makes the record empty, whatever it held: nothing is defined, the counter is 0.
 #[no_mangle]
 pub extern "C" fn linguastel_empty(lent: &mut State)
-    ensures { λ _. ⌜ HostSound (now (lent .exit)) × (meaning (now (lent .exit)) ≡ empty-state 0) ⌝ }
+    ensures { λ _. ⌜ Sound (now (lent .exit)) × (abs (now (lent .exit)) ≡ empty-state 0) ⌝ }
 {
     *lent = State::empty();
 }
@@ -37,7 +38,7 @@ pub extern "C" fn linguastel_empty(lent: &mut State)
 // Whether the record is sound, whatever it holds.
 #[no_mangle]
 pub extern "C" fn linguastel_sound(lent: &State) -> bool
-    ensures { λ r. ⌜ Whether (HostSound (now (lent .entry))) r ⌝ }
+    ensures { λ r. ⌜ Whether (Sound (now (lent .entry))) r ⌝ }
 {
     (*lent).sound()
 }
@@ -47,7 +48,7 @@ pub extern "C" fn linguastel_sound(lent: &State) -> bool
 pub extern "C" fn linguastel_call(lent: &mut State, call: HostCall) -> HostAnswer
     ensures { λ r. ⌜ Called (now (lent .entry)) call (now (lent .exit)) r ⌝ }
 {
-    let stepped = host_record::step(*lent, call);
+    let stepped = host_step::step(*lent, call);
     *lent = stepped.state;
     stepped.answer
 }
@@ -57,7 +58,7 @@ pub extern "C" fn linguastel_call(lent: &mut State, call: HostCall) -> HostAnswe
 pub extern "C" fn linguastel_tick(lent: &mut State) -> HostAnswer
     ensures { λ r. ⌜ Called (now (lent .entry)) tick-call (now (lent .exit)) r ⌝ }
 {
-    let stepped = host_record::tick(*lent);
+    let stepped = host_step::tick(*lent);
     *lent = stepped.state;
     stepped.answer
 }

@@ -9,3 +9,4 @@ pub mod Parts
 pub mod Equal
 pub mod Empty
 pub mod Testing
+pub mod Numbers

@@ -1,4 +1,4 @@
--- `linguastel_call` meets its contract: it is a thin entry to `HostRecord::step`.
+-- `linguastel_call` meets its contract: it is a thin entry to `host_step::step`.
 use contract.Running.{givenOf, tables, tablesOf}
 use denote.Struct.Declared.{shape}
 use denote.Struct.Laws as LL
@@ -6,21 +6,21 @@ use denote.Struct.Struct.{layout}
 use denote.Triple.Spec.{tripleOf}
 use denote.Triple.Table.{entered, cited}
 use Rattle.thin.proofs.Walk.{meets}
-use Rattle.host_parts.specs.declared.HostCall.{HostCall}
-use Rattle.host_record.specs.declared.HostStep.{HostStep}
-use Rattle.host_record.specs.Step.{HostStepped}
+use Rattle.host_calls.specs.declared.HostCall.{HostCall}
+use Rattle.host_step.specs.declared.HostStep.{HostStep}
+use Rattle.host_step.specs.Step.{HostStepped}
 use Rattle.linguastel.specs.Called.{Called}
-use Rattle.host_record.proofs.HostRecord as T
-use Rattle.host_record.proofs.HostRecord.Laws as T′
-use Rattle.host_parts.proofs.HostCall as D
-use Rattle.host_parts.proofs.HostCall.Laws as D′
-use Rattle.host_parts.proofs.HostAnswer as N
-use Rattle.host_parts.proofs.HostAnswer.Laws as N′
-use Rattle.host_record.proofs.HostStep as S
-use Rattle.host_record.proofs.HostRecord.step as step
-use Rattle.host_record.proofs.HostRecord.step.Symbol as step-def
-use Rattle.host_record.proofs.HostRecord.step.Symbol.{name as #step}
-use Rattle.host_record.proofs.HostRecord.step.Met as step-thm
+use Rattle.record.proofs.State as T
+use Rattle.record.proofs.State.Laws as T′
+use Rattle.host_calls.proofs.HostCall as D
+use Rattle.host_calls.proofs.HostCall.Laws as D′
+use Rattle.host_calls.proofs.HostAnswer as N
+use Rattle.host_calls.proofs.HostAnswer.Laws as N′
+use Rattle.host_step.proofs.HostStep as S
+use Rattle.host_step.proofs.step as step
+use Rattle.host_step.proofs.step.Symbol as step-def
+use Rattle.host_step.proofs.step.Symbol.{name as #step}
+use Rattle.host_step.proofs.step.Met as step-thm
 use Rattle.linguastel.proofs.linguastel_call as f
 use Rattle.linguastel.proofs.linguastel_call.Key.{name as #call}
 use Rattle.linguastel.proofs.linguastel_call.Statement as stated
@@ -38,4 +38,4 @@ linguastel-call-spec 𝓤 H 𝓜 𝓖 𝓡 =
     HostCall (layout (shape D.the-type)) (D.the-row .written) (D.the-row .reaches) (D.the-row .own) (D.the-row .coded) (LL.val D.the-type D′.the-laws)
     (LL.tells D.the-type D′.the-laws) (LL.lawful D.the-type D′.the-laws 𝓤 H A W) (LL.makes D.the-type D′.the-plain 𝓤 H A)
     #step HostStepped Called (λ h d r e. e) (tablesOf 𝓤 H 𝓜 𝓣)
-    (cited 𝓤 H (tripleOf 𝓤 H A step.signature (step.spec 𝓤 H A (𝓜 .mem) (𝓡 .run))) 𝓜 𝓡 code.env #step step-def.routine code.calls-host-record·HostRecord·step (step-thm.met 𝓤 H 𝓜 𝓖 𝓡)))
+    (cited 𝓤 H (tripleOf 𝓤 H A step.signature (step.spec 𝓤 H A (𝓜 .mem) (𝓡 .run))) 𝓜 𝓡 code.env #step step-def.routine code.calls-host-step·step (step-thm.met 𝓤 H 𝓜 𝓖 𝓡)))

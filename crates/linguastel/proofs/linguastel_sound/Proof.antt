@@ -36,27 +36,27 @@ use denote.Triple.Table.{entered, cited}
 use denote.Triple.Walked.{says, Stays, stay-none-ref, walkOf, AllGo, goes-none-ref, Walks, ends-at, walked, walk-meets}
 use denote.Exit.{yes}
 use Rattle.lists.specs.Tests.{Whether}
-use Rattle.host_record.specs.declared.HostRecord.{HostRecord}
-use Rattle.host_record.specs.Record.{HostSound}
-use Rattle.host_record.proofs.HostRecord as T
-use Rattle.host_record.proofs.HostRecord.Laws as T′
-use Rattle.host_record.proofs.HostRecord.sound as test
-use Rattle.host_record.proofs.HostRecord.sound.Symbol as sound-def
-use Rattle.host_record.proofs.HostRecord.sound.Symbol.{name as #sound}
-use Rattle.host_record.proofs.HostRecord.sound.Met as sound-thm
+use Rattle.record.specs.declared.State.{State}
+use Rattle.record.specs.Sound.{Sound}
+use Rattle.record.proofs.State as T
+use Rattle.record.proofs.State.Laws as T′
+use Rattle.record.proofs.State.sound as test
+use Rattle.record.proofs.State.sound.Symbol as sound-def
+use Rattle.record.proofs.State.sound.Symbol.{name as #sound}
+use Rattle.record.proofs.State.sound.Met as sound-thm
 use Rattle.linguastel.proofs.linguastel_sound.Key.{name as #tested}
 use Rattle.linguastel.proofs.linguastel_sound as f
 use Rattle.linguastel.proofs.linguastel_sound.Statement as stated
 use Rattle.linguastel.proofs.linguastel_sound.Code as code
 
 abbrev Arg : Type 0
-Arg = RefT HostRecord × Unit {0}
+Arg = RefT State × Unit {0}
 
 abbrev stayed : Stays (f.ended .signature .params) (f.ended .kept)
 stayed = (stay-none-ref (0 ∷ []) tt (plain (λ _. T.the-row)) yes, tt)
 
 -- the machine value of a record
-abbrev value : HostRecord → Val
+abbrev value : State → Val
 value = LL.val T.the-type T′.the-laws
 
 module _ {M : Type 1} (𝓤 : URA M) (H : Heap 𝓤) (A : Atoms 𝓤) (at-mem : Memory → SProp 𝓤) (run : Routine → Fun 𝓤) where
@@ -64,10 +64,10 @@ module _ {M : Type 1} (𝓤 : URA M) (H : Heap 𝓤) (A : Atoms 𝓤) (at-mem : 
   abbrev ByValue : Contract 𝓤
   ByValue = tripleOf 𝓤 H A test.signature (test.spec 𝓤 H A at-mem run)
 
-  sound-of : (h : HostRecord) (r : Bool) → ent 𝓤 (ensured 𝓤 H A test.ended (test.clauses 𝓤 H A at-mem run) tt (h, tt) tt r) (fact 𝓤 (Whether (HostSound h) r))
-  sound-of h r = exE 𝓤 _ (λ ws. snd∗ 𝓤 (sem 𝓤 H A (lasts test.ended tt (h, tt) ws)) (fact 𝓤 (Whether (HostSound h) r)))
+  sound-of : (h : State) (r : Bool) → ent 𝓤 (ensured 𝓤 H A test.ended (test.clauses 𝓤 H A at-mem run) tt (h, tt) tt r) (fact 𝓤 (Whether (Sound h) r))
+  sound-of h r = exE 𝓤 _ (λ ws. snd∗ 𝓤 (sem 𝓤 H A (lasts test.ended tt (h, tt) ws)) (fact 𝓤 (Whether (Sound h) r)))
 
-module _ {M : Type 1} (𝓤 : URA M) (H : Heap 𝓤) (A : Atoms 𝓤) (W : Given 𝓤 H A) (at-mem : Memory → SProp 𝓤) (run : Routine → Fun 𝓤) (κ : Lft) (q : Share) (b o : ℕ) (γ : GName) (h : HostRecord) where
+module _ {M : Type 1} (𝓤 : URA M) (H : Heap 𝓤) (A : Atoms 𝓤) (W : Given 𝓤 H A) (at-mem : Memory → SProp 𝓤) (run : Routine → Fun 𝓤) (κ : Lft) (q : Share) (b o : ℕ) (γ : GName) (h : State) where
   abbrev x : Arg
   x = (record { ptr = (b, o); name = γ; now = h }, tt)
 
@@ -83,7 +83,7 @@ module _ {M : Type 1} (𝓤 : URA M) (H : Heap 𝓤) (A : Atoms 𝓤) (W : Given
   goes-sound : ent 𝓤 (sem 𝓤 H A (T.the-row .own h (value h ∷ []))) (ByValue 𝓤 H A at-mem run .pre to-sound)
   goes-sound = qed W (‵ (T.the-row .own h (value h ∷ [])) ∷ []) ∵ nothing ! $ move ! (1 ∷ 0 ∷ []) $ fjoin ! $ nothing ! $ join ! $ frame ! $ done !
 
-  exits : (r : Bool) (v : Val) → Whether (HostSound h) r → Is bool r (v ∷ [])
+  exits : (r : Bool) (v : Val) → Whether (Sound h) r → Is bool r (v ∷ [])
       → ent 𝓤 (sep 𝓤 (A .lft κ q) (sep 𝓤 (A .res γ (T.the-row .coded .code h)) (A .shr-bor κ (λ s. partAt (T.the-row) s h b o)))) (Post v)
   exits r v e is =
       qed W (‵ (flft κ q) ∷ ‵ (fres γ (T.the-row .coded .code h)) ∷ ‵ (fshr-bor κ (λ s. partAt (T.the-row) s h b o)) ∷ []) ∵
@@ -104,7 +104,7 @@ module _ {M : Type 1} (𝓤 : URA M) (H : Heap 𝓤) (A : Atoms 𝓤) (W : Given
         owned ! T.the-row (Is T.the-row) (LL.makes T.the-type T′.the-plain 𝓤 H A) h _ is $ use1 W (raw (ByValue 𝓤 H A at-mem run .pre to-sound)) goes-sound $
         calls-at ! fm (ByValue 𝓤 H A at-mem run) known to-sound (and-then ! (load ! (from ! (stop !)) (look ! 6 refl)) (no-more !)) (λ v.
         use1 W (later (some (λ (r : Bool). (‵ ftrue ⊛ ‵ (bool .own r (v ∷ []))) ⊛ raw (ensured 𝓤 H A test.ended (test.clauses 𝓤 H A at-mem run) tt (h, tt) tt r)))) (id⊢ 𝓤 _) $ await ! tt $ pick ! (λ r.
-        split ! $ move ! (1 ∷ []) $ use1 W (raw (fact 𝓤 (Whether (HostSound h) r))) (sound-of 𝓤 H A at-mem run h r) $ heard ! (Whether (HostSound h) r) (λ e. split ! $ drop ! $
+        split ! $ move ! (1 ∷ []) $ use1 W (raw (fact 𝓤 (Whether (Sound h) r))) (sound-of 𝓤 H A at-mem run h r) $ heard ! (Whether (Sound h) r) (λ e. split ! $ drop ! $
         peeks ! bool (Is bool) (shows 𝓤 H A bool) r (v ∷ []) (λ is′.
         -- [what a Boolean owns; the token; the fractured borrow; true; res; true; _2; …; _1; …; room for _0; …]
         land ! (from ! (stop !)) (init ! 10 refl (bool-lawful 𝓤 H A W .typed r _ is′ .0)) $ drop ! $
@@ -131,4 +131,4 @@ linguastel-sound-spec 𝓤 H 𝓜 𝓖 𝓡 =
     entered 𝓤 H (tripleOf 𝓤 H (𝓖 .A) f.signature (f.spec 𝓤 H (𝓖 .A) (𝓜 .mem) (𝓡 .run)))
     (tables 𝓤 H 𝓜 𝓡 code.env .C) (tables 𝓤 H 𝓜 𝓡 code.env .Λ) #tested code.function (code.unfolded 𝓤 H 𝓜 𝓡)
     (meets 𝓤 H (𝓖 .A) (givenOf 𝓤 H 𝓜 𝓖) (𝓜 .mem) (𝓡 .run) (tablesOf 𝓤 H 𝓜 (tables 𝓤 H 𝓜 𝓡 code.env))
-    (cited 𝓤 H (ByValue 𝓤 H (𝓖 .A) (𝓜 .mem) (𝓡 .run)) 𝓜 𝓡 code.env #sound sound-def.routine code.calls-host-record·HostRecord·sound (sound-thm.met 𝓤 H 𝓜 𝓖 𝓡)))
+    (cited 𝓤 H (ByValue 𝓤 H (𝓖 .A) (𝓜 .mem) (𝓡 .run)) 𝓜 𝓡 code.env #sound sound-def.routine code.calls-record·State·sound (sound-thm.met 𝓤 H 𝓜 𝓖 𝓡)))

@@ -34,33 +34,33 @@ use denote.Triple.Entry.{onEntry}
 use denote.Triple.Spec.{Meets, tripleOf}
 use denote.Triple.Table.{entered, cited}
 use denote.Triple.Walked.{says, Stays, stay-ref, walkOf, AllGo, goes-ref, Walks, ends-at, walked, walk-meets}
-use Rattle.host_parts.specs.declared.HostAnswer.{HostAnswer}
-use Rattle.host_record.specs.declared.HostRecord.{HostRecord}
-use Rattle.host_record.specs.declared.HostStep.{HostStep}
-use Rattle.host_record.specs.Step.{tick-call, HostStepped}
-use Rattle.host_record.proofs.HostRecord as T
-use Rattle.host_record.proofs.HostRecord.Laws as T′
-use Rattle.host_parts.proofs.HostAnswer as N
-use Rattle.host_parts.proofs.HostAnswer.Laws as N′
-use Rattle.host_record.proofs.HostStep as S
-use Rattle.host_record.proofs.HostStep.Laws as S′
-use Rattle.host_record.proofs.HostRecord.tick as step
-use Rattle.host_record.proofs.HostRecord.tick.Symbol as step-def
-use Rattle.host_record.proofs.HostRecord.tick.Symbol.{name as #step}
-use Rattle.host_record.proofs.HostRecord.tick.Met as step-thm
+use Rattle.host_calls.specs.declared.HostAnswer.{HostAnswer}
+use Rattle.record.specs.declared.State.{State}
+use Rattle.host_step.specs.declared.HostStep.{HostStep}
+use Rattle.host_step.specs.Step.{tick-call, HostStepped}
+use Rattle.record.proofs.State as T
+use Rattle.record.proofs.State.Laws as T′
+use Rattle.host_calls.proofs.HostAnswer as N
+use Rattle.host_calls.proofs.HostAnswer.Laws as N′
+use Rattle.host_step.proofs.HostStep as S
+use Rattle.host_step.proofs.HostStep.Laws as S′
+use Rattle.host_step.proofs.tick as step
+use Rattle.host_step.proofs.tick.Symbol as step-def
+use Rattle.host_step.proofs.tick.Symbol.{name as #step}
+use Rattle.host_step.proofs.tick.Met as step-thm
 use Rattle.linguastel.proofs.linguastel_tick.Key.{name as #tick}
 use Rattle.linguastel.proofs.linguastel_tick as f
 use Rattle.linguastel.proofs.linguastel_tick.Statement as stated
 use Rattle.linguastel.proofs.linguastel_tick.Code as code
 
 abbrev Arg : Type 0
-Arg = RefT HostRecord × Unit {0}
+Arg = RefT State × Unit {0}
 
 abbrev stayed : Stays (f.ended .signature .params) (f.ended .kept)
 stayed = (stay-ref (0 ∷ []) tt (plain (λ _. T.the-row)), tt)
 
 -- machine values
-abbrev state : HostRecord → Val
+abbrev state : State → Val
 state = LL.val T.the-type T′.the-laws
 
 abbrev answer : HostAnswer → Val
@@ -78,10 +78,10 @@ module _ {M : Type 1} (𝓤 : URA M) (H : Heap 𝓤) (A : Atoms 𝓤) (at-mem : 
   abbrev ByValue : Contract 𝓤
   ByValue = tripleOf 𝓤 H A step.signature (step.spec 𝓤 H A at-mem run)
 
-  stepped-of : (h : HostRecord) (r : HostStep) → ent 𝓤 (ensured 𝓤 H A step.ended (step.clauses 𝓤 H A at-mem run) tt (h, tt) tt r) (fact 𝓤 (HostStepped h tick-call r))
+  stepped-of : (h : State) (r : HostStep) → ent 𝓤 (ensured 𝓤 H A step.ended (step.clauses 𝓤 H A at-mem run) tt (h, tt) tt r) (fact 𝓤 (HostStepped h tick-call r))
   stepped-of h r = exE 𝓤 _ (λ ws. snd∗ 𝓤 (sem 𝓤 H A (lasts step.ended tt (h, tt) ws)) (fact 𝓤 (HostStepped h tick-call r)))
 
-module _ {M : Type 1} (𝓤 : URA M) (H : Heap 𝓤) (A : Atoms 𝓤) (W : Given 𝓤 H A) (at-mem : Memory → SProp 𝓤) (run : Routine → Fun 𝓤) (κ : Lft) (q : Share) (b o : ℕ) (γ : GName) (h : HostRecord) where
+module _ {M : Type 1} (𝓤 : URA M) (H : Heap 𝓤) (A : Atoms 𝓤) (W : Given 𝓤 H A) (at-mem : Memory → SProp 𝓤) (run : Routine → Fun 𝓤) (κ : Lft) (q : Share) (b o : ℕ) (γ : GName) (h : State) where
   abbrev x : Arg
   x = (record { ptr = (b, o); name = γ; now = h }, tt)
 
@@ -117,14 +117,14 @@ module _ {M : Type 1} (𝓤 : URA M) (H : Heap 𝓤) (A : Atoms 𝓤) (W : Given
         alloc1 ! (λ l₀. alloc1 ! (λ l₁. alloc1 ! (λ l₂. alloc1 ! (λ l₃. alloc0 ! $ params1 ! $ pass1 ! (init ! 4 refl (tt, tt)) $ pass0 ! $
         move ! (8 ∷ 9 ∷ 10 ∷ []) $ opens ! tt T.the-row {h = h} b o (λ vs. spelt ! T.the-row (Is T.the-row) (shows 𝓤 H A T.the-row) (LL.vals T.the-type T′.the-laws) (LL.tells T.the-type T′.the-laws) fullShare h vs b o $
         move ! (1 ∷ []) $ peeks ! T.the-row (Is T.the-row) (shows 𝓤 H A T.the-row) h (state h ∷ []) (λ is. move ! (1 ∷ []) $
-        -- [the state's cell; what a HostRecord owns; the open borrow; obs; auth; _5; …; _4; …; _3; …; _2; …; _1; …; room for _0; …]
+        -- [the state's cell; what a State owns; the open borrow; obs; auth; _5; …; _4; …; _3; …; _2; …; _1; …; room for _0; …]
         assigns ! (of-opd ! (load ! (from ! (hop ! (look ! 9 refl) (stop !))) (look-raw ! 0 refl))) (from ! (stop !)) (init ! 5 refl (LL.lawful T.the-type T′.the-laws 𝓤 H A W .typed h _ is .0)) $
         owned ! T.the-row (Is T.the-row) (LL.makes T.the-type T′.the-plain 𝓤 H A) h _ is $ use1 W (raw (ByValue 𝓤 H A at-mem run .pre to-step)) goes-step $
         calls-at ! fm (ByValue 𝓤 H A at-mem run) known to-step (and-then ! (load ! (from ! (stop !)) (look ! 6 refl)) (no-more !)) (λ v.
         use1 W (later (some (λ (r : HostStep). (‵ ftrue ⊛ ‵ (S.the-row .own r (v ∷ []))) ⊛ raw (ensured 𝓤 H A step.ended (step.clauses 𝓤 H A at-mem run) tt (h, tt) tt r)))) (id⊢ 𝓤 _) $ await ! tt $ pick ! (λ r.
         split ! $ move ! (1 ∷ []) $ use1 W (raw (fact 𝓤 (HostStepped h tick-call r))) (stepped-of 𝓤 H A at-mem run h r) $ heard ! (HostStepped h tick-call r) (λ e. split ! $ drop ! $
         peeks ! S.the-row (Is S.the-row) (shows 𝓤 H A S.the-row) r (v ∷ []) (λ is′.
-        -- [what a HostStepped owns; the state's cell; what a HostRecord owns; the open borrow; obs; auth; _5; …; room for _4; …; _3; …; _2; …; _1; …; room for _0; …]
+        -- [what a HostStepped owns; the state's cell; what a State owns; the open borrow; obs; auth; _5; …; room for _4; …; _3; …; _2; …; _1; …; room for _0; …]
         land ! (from ! (stop !)) (init ! 8 refl (LL.lawful S.the-type S′.the-laws 𝓤 H A W .typed r _ is′ .0)) $
         -- the machine value of the result is spelled out, so that its fields can be read
         rewrite ! 8 (λ (u : Val). ‵ (fat fullShare (S′.mir) l₂ 0 u)) (ap only (LL.tells S.the-type S′.the-laws r _ is′)) refl $
@@ -156,4 +156,4 @@ linguastel-tick-spec 𝓤 H 𝓜 𝓖 𝓡 =
     entered 𝓤 H (tripleOf 𝓤 H (𝓖 .A) f.signature (f.spec 𝓤 H (𝓖 .A) (𝓜 .mem) (𝓡 .run)))
     (tables 𝓤 H 𝓜 𝓡 code.env .C) (tables 𝓤 H 𝓜 𝓡 code.env .Λ) #tick code.function (code.unfolded 𝓤 H 𝓜 𝓡)
     (meets 𝓤 H (𝓖 .A) (givenOf 𝓤 H 𝓜 𝓖) (𝓜 .mem) (𝓡 .run) (tablesOf 𝓤 H 𝓜 (tables 𝓤 H 𝓜 𝓡 code.env))
-    (cited 𝓤 H (ByValue 𝓤 H (𝓖 .A) (𝓜 .mem) (𝓡 .run)) 𝓜 𝓡 code.env #step step-def.routine code.calls-host-record·HostRecord·tick (step-thm.met 𝓤 H 𝓜 𝓖 𝓡)))
+    (cited 𝓤 H (ByValue 𝓤 H (𝓖 .A) (𝓜 .mem) (𝓡 .run)) 𝓜 𝓡 code.env #step step-def.routine code.calls-host-step·tick (step-thm.met 𝓤 H 𝓜 𝓖 𝓡)))

@@ -1,4 +1,0 @@
-pub mod Faithful
-pub mod Numbers
-pub mod Steps
-pub mod Sound
