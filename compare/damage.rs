@@ -1,0 +1,250 @@
+//! Records that are probably not sound: random ones, and sound ones with something changed. Whether one is sound is not decided here.
+use crate::record::{random_record, random_word};
+use linguastel::{Chains, Record, Task, MAILBOXES, MESSAGES, QUEUES, TASKS};
+use second::Random;
+
+#[derive(Clone, Copy, PartialEq, Eq, Debug)]
+pub enum Damage {
+    /// Random bytes throughout.
+    Bytes,
+    /// One to three fields of any kind.
+    Fields,
+    /// One link of a chain that is in use: it comes round, runs into another chain or a head, leaves the table or ends too soon.
+    Link,
+    /// Two numbers in a row of a chain change their places.
+    Order,
+    /// Count, capacity or head of a ring.
+    Ring,
+    /// A field of a task's wait.
+    Wait,
+    /// An end tick, at one of the limits.
+    End,
+    /// A priority of a task or of a queued message, or a mailbox's highest.
+    Priority,
+    /// Whether something is defined, or suspended.
+    Defined,
+    /// A stored code.
+    Code,
+    /// The counter: end ticks may then be past, or too far.
+    Counter,
+}
+
+pub const DAMAGES: [Damage; 11] = [
+    Damage::Bytes,
+    Damage::Fields,
+    Damage::Link,
+    Damage::Order,
+    Damage::Ring,
+    Damage::Wait,
+    Damage::End,
+    Damage::Priority,
+    Damage::Defined,
+    Damage::Code,
+    Damage::Counter,
+];
+
+/// The most ticks that an end may be away.
+const FARTHEST: u32 = 2_147_483_646;
+
+/// Limits of some kind, their neighbours, and codes without their sign.
+const SPECIAL: [u8; 20] = [0, 1, 2, 3, 4, 15, 16, 17, 31, 32, 33, 48, 49, 50, 51, 52, 64, 65, 80, 255];
+
+fn index(random: &mut Random, most: usize) -> usize {
+    random.below(most as u32 + 1) as usize
+}
+
+fn other_byte(old: u8, random: &mut Random) -> u8 {
+    match random.below(4) {
+        0 => random.below(256) as u8,
+        1 => old.wrapping_add(1),
+        2 => old.wrapping_sub(1),
+        _ => random.pick(&SPECIAL),
+    }
+}
+
+fn other_word(old: u32, random: &mut Random) -> u32 {
+    match random.below(4) {
+        0 => random_word(random),
+        1 => old.wrapping_add(1),
+        2 => old.wrapping_sub(1),
+        _ => random.pick(&SPECIAL).into(),
+    }
+}
+
+/// Changes a sound record.
+pub fn damage(record: &mut Record, damage: Damage, random: &mut Random) {
+    match damage {
+        Damage::Bytes => *record = random_record(random),
+        Damage::Fields => {
+            for _ in 0..1 + random.below(3) {
+                damage_field(record, random);
+            }
+        }
+        Damage::Link => damage_link(record, random),
+        Damage::Order => damage_order(record, random),
+        Damage::Ring => damage_ring(record, random),
+        Damage::Wait => damage_wait(record, random),
+        Damage::End => damage_end(record, random),
+        Damage::Priority => damage_priority(record, random),
+        Damage::Defined => damage_defined(record, random),
+        Damage::Code => {
+            let task = &mut record.tasks[index(random, TASKS)];
+            task.code = other_byte(task.code, random);
+        }
+        Damage::Counter => record.counter = other_word(record.counter, random),
+    }
+}
+
+fn damage_field(record: &mut Record, random: &mut Random) {
+    match random.below(12) {
+        0 => record.counter = other_word(record.counter, random),
+        1..=3 => damage_task(&mut record.tasks[index(random, TASKS)], random),
+        4 => damage_ring(record, random),
+        5 => {
+            let queue = &mut record.queues[index(random, QUEUES)];
+            queue.attribute = other_byte(queue.attribute, random);
+        }
+        6 | 7 => damage_chains(&mut record.waiting, random),
+        8 | 9 => damage_chains(&mut record.messages, random),
+        10 => damage_defined(record, random),
+        _ => {
+            let mailbox = &mut record.mailboxes[index(random, MAILBOXES)];
+            let field = if random.below(2) == 0 { &mut mailbox.attribute } else { &mut mailbox.highest };
+            *field = other_byte(*field, random);
+        }
+    }
+}
+
+fn damage_task(task: &mut Task, random: &mut Random) {
+    match random.below(8) {
+        0 => task.word = other_word(task.word, random),
+        1 => task.end = other_word(task.end, random),
+        2 => task.sending = other_word(task.sending, random),
+        3 => task.wait = other_byte(task.wait, random),
+        4 => task.object = other_byte(task.object, random),
+        5 => task.timed = other_byte(task.timed, random),
+        6 => task.code = other_byte(task.code, random),
+        _ => task.flags = other_byte(task.flags, random),
+    }
+}
+
+fn damage_chains(chains: &mut Chains, random: &mut Random) {
+    let (link, key) = (index(random, 80), index(random, 64));
+    if random.below(3) == 0 {
+        chains.key[key] = other_byte(chains.key[key], random);
+    } else {
+        chains.link[link] = other_byte(chains.link[link], random);
+    }
+}
+
+/// The cells of a table's chains: the heads of those that aren't empty and the numbers that stand in them. The table is sound.
+fn cells_in_use(link: &[u8], numbers: usize) -> Vec<usize> {
+    let mut cells = Vec::new();
+    for head in numbers + 1..link.len() {
+        let mut cell = head;
+        while link[cell] != 0 {
+            cells.push(cell);
+            cell = usize::from(link[cell]);
+            if link[cell] == 0 {
+                cells.push(cell);
+            }
+        }
+    }
+    cells
+}
+
+/// One of the two tables with how many numbers it has, and its cells in use.
+fn random_table<'a>(record: &'a mut Record, random: &mut Random) -> (&'a mut Chains, Vec<usize>) {
+    let (chains, numbers) = if random.below(2) == 0 { (&mut record.waiting, TASKS) } else { (&mut record.messages, MESSAGES) };
+    let cells = cells_in_use(&chains.link, numbers);
+    (chains, cells)
+}
+
+fn damage_link(record: &mut Record, random: &mut Random) {
+    let (chains, cells) = random_table(record, random);
+    if cells.is_empty() {
+        return damage_chains(chains, random);
+    }
+    let cell = random.pick(&cells);
+    chains.link[cell] = match random.below(4) {
+        0 => random.pick(&cells) as u8,
+        1 => cell as u8,
+        2 => random.below(81) as u8,
+        _ => other_byte(chains.link[cell], random),
+    };
+}
+
+fn damage_order(record: &mut Record, random: &mut Random) {
+    let (chains, mut cells) = random_table(record, random);
+    let link = &mut chains.link;
+    // Two numbers stand behind each of these.
+    cells.retain(|&cell| link[cell] != 0 && link[usize::from(link[cell])] != 0);
+    if cells.is_empty() {
+        return damage_chains(chains, random);
+    }
+    let cell = random.pick(&cells);
+    let first = usize::from(link[cell]);
+    let second = usize::from(link[first]);
+    link[cell] = second as u8;
+    link[first] = link[second];
+    link[second] = first as u8;
+}
+
+fn damage_ring(record: &mut Record, random: &mut Random) {
+    let ring = &mut record.queues[index(random, QUEUES)].ring;
+    let field = match random.below(3) {
+        0 => &mut ring.head,
+        1 => &mut ring.count,
+        _ => &mut ring.capacity,
+    };
+    *field = other_byte(*field, random);
+}
+
+/// One of the tasks that wait, or any task where none does.
+fn random_waiter<'a>(record: &'a mut Record, random: &mut Random) -> &'a mut Task {
+    let waiters: Vec<usize> = (1..=TASKS).filter(|&task| record.tasks[task].wait != 0).collect();
+    let task = if waiters.is_empty() { 1 + index(random, TASKS - 1) } else { random.pick(&waiters) };
+    &mut record.tasks[task]
+}
+
+fn damage_wait(record: &mut Record, random: &mut Random) {
+    let task = random_waiter(record, random);
+    match random.below(3) {
+        0 => task.wait = random.pick(&[0, 1, 2, 3, 4, 255]),
+        1 => task.object = other_byte(task.object, random),
+        _ => task.timed = random.pick(&[0, 1, 2, 255]),
+    }
+}
+
+fn damage_end(record: &mut Record, random: &mut Random) {
+    let counter = record.counter;
+    let task = random_waiter(record, random);
+    task.timed = 1;
+    task.end = counter.wrapping_add(random.pick(&[0, 1, u32::MAX, FARTHEST, FARTHEST + 1, FARTHEST + 2]));
+}
+
+fn damage_priority(record: &mut Record, random: &mut Random) {
+    match random.below(3) {
+        0 => {
+            let key = &mut record.waiting.key[index(random, TASKS)];
+            *key = other_byte(*key, random);
+        }
+        1 => {
+            let queued: Vec<usize> = cells_in_use(&record.messages.link, MESSAGES).into_iter().filter(|&cell| cell <= MESSAGES).collect();
+            let message = if queued.is_empty() { 1 } else { random.pick(&queued) };
+            record.messages.key[message] = other_byte(record.messages.key[message], random);
+        }
+        _ => {
+            let highest = &mut record.mailboxes[index(random, MAILBOXES)].highest;
+            *highest = other_byte(*highest, random);
+        }
+    }
+}
+
+fn damage_defined(record: &mut Record, random: &mut Random) {
+    match random.below(3) {
+        0 => record.tasks[index(random, TASKS)].flags = random.pick(&[0, 1, 2, 3, 4, 255]),
+        1 => record.queues[index(random, QUEUES)].defined = random.pick(&[0, 1, 2, 255]),
+        _ => record.mailboxes[index(random, MAILBOXES)].defined = random.pick(&[0, 1, 2, 255]),
+    }
+}

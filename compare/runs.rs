@@ -1,0 +1,142 @@
+//! The kinds of run. A run follows from its kind and its seed alone, so that it can be repeated.
+use crate::carriers::{self, compare_merges, two_carriers};
+use crate::damage::{Damage, DAMAGES};
+use crate::play::Pair;
+use crate::record::{random_word, record_of};
+use crate::unsound::{self, compare_damaged};
+use second::{Profile, Random, Reached, State};
+
+#[derive(Clone, Copy, PartialEq, Eq, Debug)]
+pub enum Kind {
+    /// Calls from the empty state, at counter 0.
+    Empty,
+    /// Calls from the empty state with a counter that soon goes round.
+    Wrap,
+    /// Calls from a random sound state, in a record whose rings start anywhere and whose unused cells are random.
+    States,
+    /// Damaged records.
+    Records,
+    /// Merges of two carriers' lists.
+    Carriers,
+}
+
+pub const KINDS: [Kind; 5] = [Kind::Empty, Kind::Wrap, Kind::States, Kind::Records, Kind::Carriers];
+
+impl Kind {
+    pub fn name(self) -> &'static str {
+        match self {
+            Kind::Empty => "empty",
+            Kind::Wrap => "wrap",
+            Kind::States => "states",
+            Kind::Records => "records",
+            Kind::Carriers => "carriers",
+        }
+    }
+
+    pub fn named(name: &str) -> Option<Kind> {
+        KINDS.into_iter().find(|kind| kind.name() == name)
+    }
+
+    fn calls_in_a_run(self) -> u64 {
+        match self {
+            Kind::Empty | Kind::Wrap => 500,
+            Kind::States => 200,
+            Kind::Records | Kind::Carriers => 0,
+        }
+    }
+}
+
+/// What was compared.
+#[derive(Default)]
+pub struct Totals {
+    /// By kind.
+    pub runs: [u64; KINDS.len()],
+    /// Calls whose answer and state were compared with the second program's, by kind of run.
+    pub calls: [u64; KINDS.len()],
+    pub records: unsound::Counts,
+    pub carriers: carriers::Counts,
+    pub reached: Reached,
+}
+
+impl Totals {
+    /// Calls compared with the second program in runs of calls.
+    pub fn compared(&self) -> u64 {
+        self.calls.iter().sum()
+    }
+
+    /// Those and the calls on damaged records and in merges.
+    pub fn all_calls(&self) -> u64 {
+        self.compared() + self.records.refused + self.records.played + self.carriers.calls
+    }
+
+    /// What was never reached: rows and paths of the second program, and damages that came to no record of one of the two kinds.
+    pub fn missing(&self) -> Vec<String> {
+        let mut missing: Vec<String> = self.reached.missing().into_iter().map(String::from).collect();
+        for (kind, judged) in DAMAGES.iter().zip(&self.records.judged) {
+            if judged.unreadable + judged.unsound == 0 {
+                missing.push(format!("a record that isn't sound, by damage {kind:?}"));
+            }
+            // Random bytes are never a sound record.
+            if judged.sound == 0 && *kind != Damage::Bytes {
+                missing.push(format!("a record that is still sound, by damage {kind:?}"));
+            }
+        }
+        missing
+    }
+
+    /// One run. An error is the first difference in words.
+    pub fn run(&mut self, kind: Kind, seed: u64) -> Result<(), String> {
+        let mut random = Random::new(seed);
+        self.runs[kind as usize] += 1;
+        match kind {
+            Kind::Empty => self.play(kind, State::empty(0), &mut random),
+            Kind::Wrap => {
+                let counter = u32::MAX - random.below(60);
+                self.play(kind, State::empty(counter), &mut random)
+            }
+            Kind::States => {
+                let state = State::random_sound(&mut random);
+                self.play(kind, state, &mut random)
+            }
+            Kind::Records => {
+                let state = State::random_sound(&mut random);
+                compare_damaged(&state, &mut random, &mut self.records, &mut self.reached)
+            }
+            Kind::Carriers => self.merge(&mut random),
+        }
+    }
+
+    fn play(&mut self, kind: Kind, start: State, random: &mut Random) -> Result<(), String> {
+        let mut pair = Pair::new(start, random);
+        let profile = Profile::random(random);
+        for number in 1..=kind.calls_in_a_run() {
+            let call = profile.call(&pair.state, random);
+            self.calls[kind as usize] += 1;
+            pair.play(&call, &mut self.reached).map_err(|text| format!("call {number} of the run: {text}"))?;
+        }
+        Ok(())
+    }
+
+    fn merge(&mut self, random: &mut Random) -> Result<(), String> {
+        let state = if random.below(3) == 0 { State::empty(random_word(random)) } else { State::random_sound(random) };
+        let carriers = two_carriers(&state, random);
+        compare_merges(&record_of(&state, random), &carriers, random, &mut self.carriers)
+    }
+
+    /// What was compared, a line for each kind.
+    pub fn summary(&self) -> String {
+        let mut text = String::new();
+        for kind in [Kind::Empty, Kind::Wrap, Kind::States] {
+            text += &format!("{:>12} calls in {} runs: {}\n", self.calls[kind as usize], self.runs[kind as usize], kind.name());
+        }
+        let records = &self.records;
+        text += &format!("{:>12} damaged records, {} calls refused, {} calls compared on those still sound\n", records.records(), records.refused, records.played);
+        for (kind, judged) in DAMAGES.iter().zip(&records.judged) {
+            text += &format!("{:>12} {}, {} not sound, {} sound\n", format!("{kind:?}:"), judged.unreadable, judged.unsound, judged.sound);
+        }
+        let carriers = &self.carriers;
+        text += &format!("{:>12} merges of {} pairs of lists, {} calls", carriers.merges, carriers.pairs, carriers.calls);
+        text += &format!(", {} refused, {} waits\n", carriers.refused, carriers.waits);
+        text
+    }
+}

@@ -1,0 +1,94 @@
+//! Records of any kind. The second program judges what was read from one; the kernel's own test must agree. Where the record isn't sound, every call of
+//! known number gets E_SYS and every other one E_PAR, with zero words, and no cell changes. Where it is sound, calls are compared as usual.
+use crate::damage::{damage, Damage, DAMAGES};
+use crate::play::{first_change, words_of, Pair};
+use crate::record::{answer_in_words, kernel_call, record_of, state_of};
+use linguastel::{Record, E_PAR, E_SYS};
+use second::{Call, Profile, Random, Reached, State};
+
+/// How many records there were, by the kind of damage.
+#[derive(Clone, Copy, Default)]
+pub struct Judged {
+    pub sound: u64,
+    /// A state could be read, which isn't sound.
+    pub unsound: u64,
+    /// A chain or a number let no state be read.
+    pub unreadable: u64,
+}
+
+#[derive(Default)]
+pub struct Counts {
+    pub judged: [Judged; DAMAGES.len()],
+    /// Calls on records that aren't sound.
+    pub refused: u64,
+    /// Calls on those that were sound after all.
+    pub played: u64,
+}
+
+impl Counts {
+    pub fn records(&self) -> u64 {
+        self.judged.iter().map(|counts| counts.sound + counts.unsound + counts.unreadable).sum()
+    }
+}
+
+/// Damages a record that holds this state, in each of the ways, and looks at what came of it.
+pub fn compare_damaged(state: &State, random: &mut Random, counts: &mut Counts, reached: &mut Reached) -> Result<(), String> {
+    for (way, &kind) in DAMAGES.iter().enumerate() {
+        let mut record = record_of(state, random);
+        damage(&mut record, kind, random);
+        compare_judgement(&record, way, random, counts, reached).map_err(|text| format!("damage: {kind:?}\n{text}"))?;
+    }
+    Ok(())
+}
+
+fn compare_judgement(record: &Record, way: usize, random: &mut Random, counts: &mut Counts, reached: &mut Reached) -> Result<(), String> {
+    let read = state_of(record);
+    let sound = read.as_ref().is_some_and(State::sound);
+    let judged = &mut counts.judged[way];
+    match (&read, sound) {
+        (None, _) => judged.unreadable += 1,
+        (Some(_), false) => judged.unsound += 1,
+        (Some(_), true) => judged.sound += 1,
+    }
+    if record.is_sound() != sound {
+        return Err(format!("the kernel's test says sound: {}, the second program: {sound}\n{}", !sound, words_of(record)));
+    }
+    match read {
+        Some(state) if sound => play_some(Pair { record: *record, state }, random, counts, reached),
+        _ => refuse_all(record, random, counts),
+    }
+}
+
+fn play_some(mut pair: Pair, random: &mut Random, counts: &mut Counts, reached: &mut Reached) -> Result<(), String> {
+    for _ in 0..4 {
+        let call = random_call(&pair.state, random);
+        counts.played += 1;
+        pair.play(&call, reached)?;
+    }
+    Ok(())
+}
+
+fn refuse_all(record: &Record, random: &mut Random, counts: &mut Counts) -> Result<(), String> {
+    let call = random_call(&State::empty(0), random);
+    for number in 0..=23 {
+        expect(record, &Call { number, ..call.clone() }, E_SYS)?;
+    }
+    // As a byte, the third of these would be a known number.
+    let unknown = [24, 25 + random.below(231), 256 + random.below(24), u32::MAX];
+    for number in unknown {
+        expect(record, &Call { number, ..call.clone() }, E_PAR)?;
+    }
+    counts.refused += 24 + unknown.len() as u64;
+    Ok(())
+}
+
+fn expect(record: &Record, call: &Call, code: i32) -> Result<(), String> {
+    let mut lent = *record;
+    let answer = lent.call(kernel_call(call));
+    let refusal = linguastel::Answer { kind: 0, code, place: 0, a: 0, b: 0, c: 0 };
+    if answer == refusal && lent == *record {
+        return Ok(());
+    }
+    let answers = format!("the kernel answers: {}\nexpected: {}", answer_in_words(&answer), answer_in_words(&refusal));
+    Err(format!("call: {call}\n{answers}\nchanged: {}\nthe record, which isn't sound: {record:?}", first_change(record, &lent)))
+}
