@@ -88,6 +88,7 @@ impl Totals {
     pub fn run(&mut self, kind: Kind, seed: u64) -> Result<(), String> {
         let mut random = Random::new(seed);
         self.runs[kind as usize] += 1;
+        self.reached.start_sequence();
         match kind {
             Kind::Empty => self.play(kind, State::empty(0), &mut random),
             Kind::Wrap => {

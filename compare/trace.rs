@@ -6,7 +6,7 @@
 #![forbid(unsafe_code)]
 use comparison::record::{answer_in_words, kernel_answer, kernel_call, state_of};
 use linguastel::Record;
-use second::{Answer, Call, Reached, State};
+use second::{Answer, Call, Profile, Random, Reached, State};
 use std::fmt::{Display, Formatter};
 use std::process::ExitCode;
 
@@ -208,6 +208,94 @@ fn in_words_of(record: &Record) -> String {
     state_of(record).map_or("no state can be read".to_string(), |state| state.to_string())
 }
 
+// ── Writing a file ──
+
+/// A trace in the making: the second program's state so far, and the records.
+struct Writer {
+    state: State,
+    bytes: Vec<u8>,
+}
+
+impl Writer {
+    fn empty(counter: u32) -> Writer {
+        Writer { state: State::empty(counter), bytes: Vec::new() }
+    }
+
+    /// Plays the call and adds its record; adds nothing where the call doesn't fit into one.
+    fn add(&mut self, call: &Call) -> bool {
+        if call.number > 23 || written(call, &Answer::refused(0)).is_none() {
+            return false;
+        }
+        let answer = self.state.play(call, &mut Reached::default());
+        self.bytes.extend(written(call, &answer).expect("an answer fits into a record"));
+        true
+    }
+
+    /// The same, with one byte of the record changed afterwards.
+    fn add_changed(&mut self, call: &Call, place: usize, byte: u8) {
+        self.add(call);
+        let start = self.bytes.len() - SIZE;
+        self.bytes[start + place] = byte;
+    }
+
+    /// The same for a record that isn't run: the state stays.
+    fn add_not_run(&mut self, call: &Call, place: usize, byte: u8) {
+        let state = self.state.clone();
+        self.add_changed(call, place, byte);
+        self.state = state;
+    }
+}
+
+fn random_trace(count: usize, seed: u64, counter: u32) -> Vec<u8> {
+    let mut random = Random::new(seed);
+    let profile = Profile::random(&mut random);
+    let mut writer = Writer::empty(counter);
+    while writer.bytes.len() < count * SIZE {
+        let call = profile.call(&writer.state, &mut random);
+        writer.add(&call);
+    }
+    writer.bytes
+}
+
+/// 30 records, of which 15 differ, and a tail of 7 bytes. Nine aren't run: an unknown call, two unknown kinds, unknown flags in a call and in a tick, and
+/// each spare byte in turn. Six are run and have another answer than the right one. Two have something in fields that their calls don't use, and
+/// don't differ. Those at the end have the right answers only if the nine were left out and the six were run.
+fn bad_trace() -> Vec<u8> {
+    let handler = |number, object, value| Call { number, object, value, ..Call::default() };
+    let by_task = |caller, number, object, value| Call { caller, ..handler(number, object, value) };
+    let tick = Call::default();
+    let mut writer = Writer::empty(0);
+    for task in 1..=3 {
+        writer.add(&handler(1, task, 5));
+    }
+    writer.add(&handler(2, 1, 2));
+    // Each of these would store a word, or count a tick.
+    for (place, byte) in [(0, 24), (16, 2), (16, 255), (2, 4), (17, 1), (18, 1), (19, 1), (31, 1)] {
+        writer.add_not_run(&handler(5, 1, 99), place, byte);
+    }
+    writer.add_not_run(&tick, 2, 4);
+    writer.add(&handler(11, 1, 0));
+    // Unused fields: the attribute of a send, and caller, known flags, object, value and tmout of a tick.
+    writer.add(&Call { attribute: 7, tmout: -9, ..handler(5, 1, 10) });
+    writer.add(&Call { caller: 200, locked: true, disabled: true, object: 77, value: 5, tmout: -9, attribute: 1, ..tick });
+    // Run, with another code, a, b and c than the right ones; then a wait with a word, and one with another place.
+    writer.add_changed(&handler(5, 1, 11), 20, 1);
+    writer.add_changed(&by_task(1, 9, 1, 0), 24, 11);
+    writer.add_changed(&handler(11, 1, 0), 28, 1);
+    writer.add_changed(&handler(11, 1, 0), 30, 1);
+    writer.add(&by_task(1, 5, 1, 12));
+    writer.add_changed(&by_task(1, 4, 1, 13), 24, 1);
+    writer.add_changed(&by_task(2, 4, 1, 14), 20, 0);
+    for task in 1..=3 {
+        writer.add(&handler(22, task, 0));
+    }
+    for _ in 0..4 {
+        writer.add(&by_task(3, 9, 1, 0));
+    }
+    writer.bytes.extend([1; 7]);
+    writer.bytes
+}
+
 // ── Commands ──
 
 fn read_file(path: &str) -> Result<Vec<u8>, String> {
@@ -277,5 +365,81 @@ fn main() -> ExitCode {
             eprintln!("{message}");
             ExitCode::from(2)
         }
+    }
+}
+
+#[cfg(test)]
+mod tests {
+    use super::*;
+
+    fn line(bytes: &[u8]) -> String {
+        let replay = replay(bytes, 0);
+        assert_eq!(replay.kernel, replay.second);
+        assert!(replay.apart.is_none());
+        replay.kernel.to_string()
+    }
+
+    fn three() -> Vec<u8> {
+        let mut writer = Writer::empty(0);
+        for task in 1..=3 {
+            writer.add(&Call { number: 1, object: task, value: 5, ..Call::default() });
+        }
+        writer.bytes
+    }
+
+    #[test]
+    fn no_bytes() {
+        assert_eq!(line(&[]), "records 0 differ 0 first 0 tail 0");
+    }
+
+    #[test]
+    fn second_answer_of_three() {
+        let mut bytes = three();
+        assert_eq!(line(&bytes), "records 3 differ 0 first 0 tail 0");
+        bytes[SIZE + 20] = 1;
+        assert_eq!(line(&bytes), "records 3 differ 1 first 2 tail 0");
+    }
+
+    #[test]
+    fn bytes_after_the_last_record() {
+        assert_eq!(line(&[0; 31]), "records 0 differ 0 first 0 tail 31");
+        assert_eq!(line(&three()[..2 * SIZE + 5]), "records 2 differ 0 first 0 tail 5");
+    }
+
+    #[test]
+    fn a_record_that_is_not_run() {
+        for (place, byte, why) in [(0, 24, "unknown call"), (16, 2, "unknown kind"), (2, 4, "unknown flag"), (19, 1, "spare byte"), (31, 255, "spare byte")] {
+            let mut bytes = three();
+            bytes[SIZE + place] = byte;
+            assert_eq!(line(&bytes), "records 3 differ 1 first 2 tail 0");
+            assert!(replay(&bytes, 0).details.is_some_and(|text| text.contains(why)));
+            // Had task 2 been defined, this would be E_OBJ.
+            bytes.extend(&three()[SIZE..2 * SIZE]);
+            assert_eq!(line(&bytes), "records 4 differ 1 first 2 tail 0");
+        }
+    }
+
+    /// A change in any byte of the answer, or in a spare byte, makes the record differ.
+    #[test]
+    fn every_byte_of_the_answer() {
+        for place in 16..SIZE {
+            let mut bytes = three();
+            bytes[2 * SIZE + place] ^= 0x80;
+            assert_eq!(line(&bytes), "records 3 differ 1 first 3 tail 0", "byte {place}");
+        }
+    }
+
+    #[test]
+    fn what_is_written_is_read_again() {
+        for (seed, counter) in [(1, 0), (2, 0), (3, u32::MAX - 20)] {
+            let replay = replay(&random_trace(2000, seed, counter), counter);
+            assert_eq!(replay.second.to_string(), "records 2000 differ 0 first 0 tail 0");
+            assert_eq!(replay.kernel, replay.second);
+        }
+    }
+
+    #[test]
+    fn bad_records() {
+        assert_eq!(line(&bad_trace()), "records 30 differ 15 first 5 tail 7");
     }
 }

@@ -1,10 +1,10 @@
 //! Records of any kind. The second program judges what was read from one; the kernel's own test must agree. Where the record isn't sound, every call of
 //! known number gets E_SYS and every other one E_PAR, with zero words, and no cell changes. Where it is sound, calls are compared as usual.
-use crate::damage::{damage, Damage, DAMAGES};
+use crate::damage::{damage, DAMAGES};
 use crate::play::{first_change, words_of, Pair};
 use crate::record::{answer_in_words, kernel_call, record_of, state_of};
 use linguastel::{Record, E_PAR, E_SYS};
-use second::{Call, Profile, Random, Reached, State};
+use second::{Answer, Call, Profile, Random, Reached, State};
 
 /// How many records there were, by the kind of damage.
 #[derive(Clone, Copy, Default)]
@@ -55,13 +55,28 @@ fn compare_judgement(record: &Record, way: usize, random: &mut Random, counts: &
     }
     match read {
         Some(state) if sound => play_some(Pair { record: *record, state }, random, counts, reached),
-        _ => refuse_all(record, random, counts),
+        Some(state) => {
+            second_refuses(state, random, reached)?;
+            refuse_all(record, random, counts)
+        }
+        None => refuse_all(record, random, counts),
     }
+}
+
+/// The second program too refuses a call on a state that isn't sound, and leaves it.
+fn second_refuses(state: State, random: &mut Random, reached: &mut Reached) -> Result<(), String> {
+    let call = Call { number: random.below(24), ..Call::default() };
+    let mut left = state.clone();
+    let answer = left.play(&call, reached);
+    if answer == Answer::refused(E_SYS) && left == state {
+        return Ok(());
+    }
+    Err(format!("call: {call}\nthe second program answers: {answer}\n── the state, which isn't sound ──\n{state}\n── and after it ──\n{left}"))
 }
 
 fn play_some(mut pair: Pair, random: &mut Random, counts: &mut Counts, reached: &mut Reached) -> Result<(), String> {
     for _ in 0..4 {
-        let call = random_call(&pair.state, random);
+        let call = Profile::random(random).call(&pair.state, random);
         counts.played += 1;
         pair.play(&call, reached)?;
     }
@@ -69,14 +84,14 @@ fn play_some(mut pair: Pair, random: &mut Random, counts: &mut Counts, reached: 
 }
 
 fn refuse_all(record: &Record, random: &mut Random, counts: &mut Counts) -> Result<(), String> {
-    let call = random_call(&State::empty(0), random);
+    let call = Profile::random(random).call(&State::empty(0), random);
     for number in 0..=23 {
-        expect(record, &Call { number, ..call.clone() }, E_SYS)?;
+        expect(record, &Call { number, ..call }, E_SYS)?;
     }
     // As a byte, the third of these would be a known number.
     let unknown = [24, 25 + random.below(231), 256 + random.below(24), u32::MAX];
     for number in unknown {
-        expect(record, &Call { number, ..call.clone() }, E_PAR)?;
+        expect(record, &Call { number, ..call }, E_PAR)?;
     }
     counts.refused += 24 + unknown.len() as u64;
     Ok(())
