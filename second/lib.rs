@@ -7,6 +7,7 @@ mod errors;
 mod mailboxes;
 mod queues;
 mod random;
+mod random_states;
 mod reached;
 mod sound;
 mod state;
@@ -16,5 +17,6 @@ mod tests;
 
 pub use errors::*;
 pub use random::*;
+pub use random_states::*;
 pub use reached::*;
 pub use state::*;
