@@ -2,8 +2,8 @@
 //! lists each call answers as when its list runs alone, and all merges end in equal states.
 use crate::play::words_of;
 use crate::record::{answer_in_words, kernel_call, state_of};
-use linguastel::{number, Record, DEFINED, MAILBOXES, MESSAGES, NO_WAIT, QUEUES, TASKS};
-use second::{Call, Random, State, Wait};
+use linguastel::{number, Record, MAILBOXES, MESSAGES, QUEUES, TASKS};
+use second::{random_call, Call, Own, Profile, Random, State, Wait};
 
 #[derive(Default)]
 pub struct Counts {
@@ -13,15 +13,6 @@ pub struct Counts {
     pub calls: u64,
     pub refused: u64,
     pub waits: u64,
-}
-
-/// The numbers that a carrier owns.
-#[derive(Clone, Default)]
-pub struct Carrier {
-    tasks: Vec<u32>,
-    queues: Vec<u32>,
-    mailboxes: Vec<u32>,
-    messages: Vec<u32>,
 }
 
 /// A call of a list, with the answer that it got alone.
@@ -51,9 +42,10 @@ fn owner_of_inmate(object: Owner, random: &mut Random) -> Owner {
 }
 
 /// Two carriers with nothing in common, such that this state meets the placement premise.
-pub fn two_carriers(state: &State, random: &mut Random) -> [Carrier; 2] {
+pub fn two_carriers(state: &State, random: &mut Random) -> [Own; 2] {
     // The third one's numbers are nobody's.
-    let mut owners: [Carrier; 3] = Default::default();
+    let nothing = || Own { tasks: Vec::new(), queues: Vec::new(), mailboxes: Vec::new(), messages: Vec::new() };
+    let mut owners = [nothing(), nothing(), nothing()];
     let queue_owners: Vec<Owner> = (0..=QUEUES).map(|_| random_owner(random)).collect();
     let mailbox_owners: Vec<Owner> = (0..=MAILBOXES).map(|_| random_owner(random)).collect();
     for queue in 1..=QUEUES {
@@ -77,7 +69,12 @@ pub fn two_carriers(state: &State, random: &mut Random) -> [Carrier; 2] {
         };
         owners[owner].messages.push(message);
     }
-    let [first, second, _] = owners;
+    let [mut first, mut second, _] = owners;
+    if random.percent(50) {
+        // Fewer numbers, so that the tasks meet. What is left over is nobody's.
+        first.cut(6, 2, 6);
+        second.cut(6, 2, 6);
+    }
     [first, second]
 }
 
@@ -87,73 +84,34 @@ fn mailbox_with(state: &State, message: u32) -> Option<usize> {
 
 // ── A list of calls ──
 
-/// A number of the carrier's own, sometimes one that is not valid: those may stand in any list.
-fn number_from(own: &[u32], most: usize, random: &mut Random) -> u32 {
-    if own.is_empty() || random.below(25) == 0 {
-        random.pick(&[0, most as u32 + 1, 255, 300, u32::MAX])
-    } else {
-        random.pick(own)
-    }
-}
-
-/// Most callers are able, so that most calls get past step 1.
-fn random_caller(carrier: &Carrier, record: &Record, random: &mut Random) -> u32 {
-    let is_able = |task: u32| record.tasks[task as usize].flags == DEFINED && record.tasks[task as usize].wait == NO_WAIT;
-    let able: Vec<u32> = carrier.tasks.iter().copied().filter(|&task| is_able(task)).collect();
-    match random.below(10) {
-        0 => number_from(&carrier.tasks, TASKS, random),
-        1 | 2 => 0,
-        _ if able.is_empty() => 0,
-        _ => random.pick(&able),
-    }
-}
-
-/// Creations come first more often than later, so that a list that starts with nothing gets somewhere.
-fn random_number(place: usize, random: &mut Random) -> u32 {
-    let early = random.below(1 + place as u32 / 8) == 0;
-    match random.below(40) {
-        0 => random.pick(&[24, 25, 255, 256, u32::MAX]),
-        _ if early => random.pick(&[number::DEFINE_TASK, number::DEFINE_TASK, number::CRE_DTQ, number::CRE_MBX]),
-        _ => 1 + random.below(23),
-    }
-}
-
-fn random_call(carrier: &Carrier, record: &Record, place: usize, random: &mut Random) -> Call {
-    let number = random_number(place, random);
-    let object = match number {
-        number::CRE_DTQ..=number::REF_DTQ => number_from(&carrier.queues, QUEUES, random),
-        number::CRE_MBX..=number::REF_MBX => number_from(&carrier.mailboxes, MAILBOXES, random),
-        number::DEFINE_TASK | number::REL_WAI..=number::FETCH => number_from(&carrier.tasks, TASKS, random),
-        // A call of unknown number names its caller alone.
-        _ => random.below(20),
+/// Whether every valid number that the call names is the carrier's own. A call of unknown number names its caller alone.
+fn names_only(own: &Own, call: &Call) -> bool {
+    let is_own = |number: u32, most: usize, list: &[u32]| number == 0 || number > most as u32 || list.contains(&number);
+    let message = call.number != number::SND_MBX || is_own(call.value, MESSAGES, &own.messages);
+    let object = match call.number {
+        number::CRE_DTQ..=number::REF_DTQ => is_own(call.object, QUEUES, &own.queues),
+        number::CRE_MBX..=number::REF_MBX => is_own(call.object, MAILBOXES, &own.mailboxes),
+        number::DEFINE_TASK..=number::FETCH => is_own(call.object, TASKS, &own.tasks),
+        _ => true,
     };
-    let value = match number {
-        number::SND_MBX => number_from(&carrier.messages, MESSAGES, random),
-        number::CRE_DTQ => random.below(4),
-        _ => random.below(18),
-    };
-    Call {
-        number,
-        caller: random_caller(carrier, record, random),
-        locked: random.below(30) == 0,
-        disabled: random.below(30) == 0,
-        object,
-        value,
-        tmout: random.pick(&[-2, -1, -1, 0, 1, 2, 5, i32::MAX - 1, i32::MAX]),
-        attribute: random.below(4) + random.below(30) / 29,
-    }
+    message && object && is_own(call.caller, TASKS, &own.tasks)
 }
 
-/// A list of calls that a carrier makes from this record on, with the answers that they get.
-fn random_list(start: &Record, carrier: &Carrier, random: &mut Random) -> Vec<Answered> {
+/// A list of calls, no ticks, that a carrier makes from this record on, with the answers that they get.
+fn random_list(start: &Record, own: &Own, random: &mut Random) -> Result<Vec<Answered>, String> {
+    let profile = Profile::restricted(random.pick(&second::KINDS), own.clone());
     let mut record = *start;
     let mut list = Vec::new();
-    for place in 0..10 + random.below(60) as usize {
-        let call = random_call(carrier, &record, place, random);
+    for _ in 0..10 + random.below(60) {
+        let state = state_of(&record).ok_or("no state can be read after a call of a carrier")?;
+        let call = random_call(random, &profile, &state);
+        if call.number == number::TICK || !names_only(own, &call) {
+            return Err(format!("a carrier's list has a call that isn't its own: {call}"));
+        }
         let answer = record.call(kernel_call(&call));
         list.push(Answered { call, answer });
     }
-    list
+    Ok(list)
 }
 
 // ── Merges ──
@@ -203,8 +161,8 @@ fn merge_in_words(start: &Record, lists: &[Vec<Answered>; 2], turns: &[Owner]) -
 }
 
 /// Two lists from this record, and some merges of them.
-pub fn compare_merges(start: &Record, carriers: &[Carrier; 2], random: &mut Random, counts: &mut Counts) -> Result<(), String> {
-    let lists = [random_list(start, &carriers[0], random), random_list(start, &carriers[1], random)];
+pub fn compare_merges(start: &Record, carriers: &[Own; 2], random: &mut Random, counts: &mut Counts) -> Result<(), String> {
+    let lists = [random_list(start, &carriers[0], random)?, random_list(start, &carriers[1], random)?];
     counts.pairs += 1;
     let mut first_end: Option<State> = None;
     for merge in 0..5 {

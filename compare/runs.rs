@@ -4,7 +4,7 @@ use crate::damage::{Damage, DAMAGES};
 use crate::play::Pair;
 use crate::record::{random_word, record_of};
 use crate::unsound::{self, compare_damaged};
-use second::{Profile, Random, Reached, State};
+use second::{random_call, random_sound_state, Profile, Random, Reached, State};
 
 #[derive(Clone, Copy, PartialEq, Eq, Debug)]
 pub enum Kind {
@@ -44,6 +44,25 @@ impl Kind {
             Kind::Records | Kind::Carriers => 0,
         }
     }
+}
+
+/// A random sound state. The second program's leave the stored pair of a waiting task at 0 and 0; a sound record may have any pair there.
+fn random_start(random: &mut Random) -> State {
+    let mut state = random_sound_state(random);
+    for task in &mut state.tasks[1..] {
+        if task.exists && random.percent(20) {
+            task.code = random.pick(&[0, -49, -50, -51]);
+            task.word = random.number();
+        }
+    }
+    state
+}
+
+/// Near the wrap, every other run has short time-outs and many ticks.
+fn random_profile(kind: Kind, random: &mut Random) -> Profile {
+    let wanted = random.pick(&second::KINDS);
+    let chosen = if kind == Kind::Wrap && random.percent(50) { second::Kind::NearWrap } else { wanted };
+    Profile::new(chosen, random)
 }
 
 /// What was compared.
@@ -96,11 +115,11 @@ impl Totals {
                 self.play(kind, State::empty(counter), &mut random)
             }
             Kind::States => {
-                let state = State::random_sound(&mut random);
+                let state = random_start(&mut random);
                 self.play(kind, state, &mut random)
             }
             Kind::Records => {
-                let state = State::random_sound(&mut random);
+                let state = random_start(&mut random);
                 compare_damaged(&state, &mut random, &mut self.records, &mut self.reached)
             }
             Kind::Carriers => self.merge(&mut random),
@@ -109,9 +128,9 @@ impl Totals {
 
     fn play(&mut self, kind: Kind, start: State, random: &mut Random) -> Result<(), String> {
         let mut pair = Pair::new(start, random);
-        let profile = Profile::random(random);
+        let profile = random_profile(kind, random);
         for number in 1..=kind.calls_in_a_run() {
-            let call = profile.call(&pair.state, random);
+            let call = random_call(random, &profile, &pair.state);
             self.calls[kind as usize] += 1;
             pair.play(&call, &mut self.reached).map_err(|text| format!("call {number} of the run: {text}"))?;
         }
@@ -119,7 +138,7 @@ impl Totals {
     }
 
     fn merge(&mut self, random: &mut Random) -> Result<(), String> {
-        let state = if random.below(3) == 0 { State::empty(random_word(random)) } else { State::random_sound(random) };
+        let state = if random.below(3) == 0 { State::empty(random_word(random)) } else { random_start(random) };
         let carriers = two_carriers(&state, random);
         compare_merges(&record_of(&state, random), &carriers, random, &mut self.carriers)
     }

@@ -6,7 +6,7 @@
 #![forbid(unsafe_code)]
 use comparison::record::{answer_in_words, kernel_answer, kernel_call, state_of};
 use linguastel::Record;
-use second::{Answer, Call, Profile, Random, Reached, State};
+use second::{random_call, Answer, Call, Profile, Random, Reached, State};
 use std::fmt::{Display, Formatter};
 use std::process::ExitCode;
 
@@ -248,11 +248,15 @@ impl Writer {
 
 fn random_trace(count: usize, seed: u64, counter: u32) -> Vec<u8> {
     let mut random = Random::new(seed);
-    let profile = Profile::random(&mut random);
     let mut writer = Writer::empty(counter);
     while writer.bytes.len() < count * SIZE {
-        let call = profile.call(&writer.state, &mut random);
-        writer.add(&call);
+        // What the calls are after changes now and then.
+        let profile = Profile::new(random.pick(&second::KINDS), &mut random);
+        let end = count.min(writer.bytes.len() / SIZE + 200) * SIZE;
+        while writer.bytes.len() < end {
+            let call = random_call(&mut random, &profile, &writer.state);
+            writer.add(&call);
+        }
     }
     writer.bytes
 }

@@ -4,7 +4,7 @@ use crate::damage::{damage, DAMAGES};
 use crate::play::{first_change, words_of, Pair};
 use crate::record::{answer_in_words, kernel_call, record_of, state_of};
 use linguastel::{Record, E_PAR, E_SYS};
-use second::{Answer, Call, Profile, Random, Reached, State};
+use second::{random_call, Answer, Call, Profile, Random, Reached, State};
 
 /// How many records there were, by the kind of damage.
 #[derive(Clone, Copy, Default)]
@@ -75,16 +75,22 @@ fn second_refuses(state: State, random: &mut Random, reached: &mut Reached) -> R
 }
 
 fn play_some(mut pair: Pair, random: &mut Random, counts: &mut Counts, reached: &mut Reached) -> Result<(), String> {
+    let profile = any_profile(random);
     for _ in 0..4 {
-        let call = Profile::random(random).call(&pair.state, random);
+        let call = random_call(random, &profile, &pair.state);
         counts.played += 1;
         pair.play(&call, reached)?;
     }
     Ok(())
 }
 
+fn any_profile(random: &mut Random) -> Profile {
+    Profile::new(random.pick(&second::KINDS), random)
+}
+
 fn refuse_all(record: &Record, random: &mut Random, counts: &mut Counts) -> Result<(), String> {
-    let call = Profile::random(random).call(&State::empty(0), random);
+    let profile = any_profile(random);
+    let call = random_call(random, &profile, &State::empty(0));
     for number in 0..=23 {
         expect(record, &Call { number, ..call }, E_SYS)?;
     }
