@@ -7,6 +7,8 @@ use second::Random;
 pub enum Damage {
     /// Random bytes throughout.
     Bytes,
+    /// Random numbers throughout, each in its range.
+    Numbers,
     /// One to three fields of any kind.
     Fields,
     /// One link of a chain that is in use: it comes round, runs into another chain or a head, leaves the table or ends too soon.
@@ -29,8 +31,9 @@ pub enum Damage {
     Counter,
 }
 
-pub const DAMAGES: [Damage; 11] = [
+pub const DAMAGES: [Damage; 12] = [
     Damage::Bytes,
+    Damage::Numbers,
     Damage::Fields,
     Damage::Link,
     Damage::Order,
@@ -75,6 +78,7 @@ fn other_word(old: u32, random: &mut Random) -> u32 {
 pub fn damage(record: &mut Record, damage: Damage, random: &mut Random) {
     match damage {
         Damage::Bytes => *record = random_record(random),
+        Damage::Numbers => *record = random_numbers(random),
         Damage::Fields => {
             for _ in 0..1 + random.below(3) {
                 damage_field(record, random);
@@ -93,6 +97,33 @@ pub fn damage(record: &mut Record, damage: Damage, random: &mut Random) {
         }
         Damage::Counter => record.counter = other_word(record.counter, random),
     }
+}
+
+/// A record whose numbers are in range. Few tasks wait and few numbers have one behind them, so that some of these can be read.
+fn random_numbers(random: &mut Random) -> Record {
+    let mut record = random_record(random);
+    for task in &mut record.tasks {
+        task.wait = if random.percent(90) { 0 } else { random.between(1, 3) as u8 };
+        task.object = random.between(1, 16) as u8;
+        task.timed = random.below(2) as u8;
+        task.code = random.pick(&[0, 49, 50, 51]);
+        task.flags = random.pick(&[0, 1, 1, 1, 3]);
+    }
+    for queue in &mut record.queues {
+        queue.ring.capacity = random.below(17) as u8;
+        queue.ring.count = random.below(u32::from(queue.ring.capacity) + 1) as u8;
+        queue.ring.head = random.below(16) as u8;
+        queue.attribute = random.below(2) as u8;
+        queue.defined = u8::from(random.percent(90));
+    }
+    for mailbox in &mut record.mailboxes {
+        (mailbox.attribute, mailbox.highest, mailbox.defined) = (random.below(4) as u8, random.between(1, 16) as u8, u8::from(random.percent(90)));
+    }
+    for (chains, numbers) in [(&mut record.waiting, TASKS as u32), (&mut record.messages, MESSAGES as u32)] {
+        chains.key = std::array::from_fn(|_| random.between(1, 16) as u8);
+        chains.link = std::array::from_fn(|_| if random.percent(90) { 0 } else { random.between(1, numbers) as u8 });
+    }
+    record
 }
 
 fn damage_field(record: &mut Record, random: &mut Random) {

@@ -3,6 +3,7 @@
 use crate::record::{answer_in_words, kernel_answer, kernel_call, record_of, state_of};
 use linguastel::{number, Outcome, Record, E_OK};
 use second::{Answer, Call, Random, Reached, State};
+use std::panic::{catch_unwind, AssertUnwindSafe};
 
 /// The kernel's record and the second program's state, which are equal.
 pub struct Pair {
@@ -20,11 +21,27 @@ impl Pair {
     pub fn play(&mut self, call: &Call, reached: &mut Reached) -> Result<Answer, String> {
         let before = self.record;
         let kernel = self.record.call(kernel_call(call));
-        let second = self.state.play(call, reached);
+        if call.number == number::TICK {
+            self.compare_tick(&before, &kernel)?;
+        }
+        let played = catch_unwind(AssertUnwindSafe(|| self.state.play(call, reached)));
+        let second = played.map_err(|_| format!("the second program panics\ncall: {call}\n── the state before the call ──\n{}", words_of(&before)))?;
         match self.difference(call, &before, &kernel, &second) {
             None => Ok(second),
             Some(what) => Err(self.in_words(&what, call, &before, &kernel, &second)),
         }
+    }
+
+    /// The library's function for the tick does what its call of number 0 did.
+    fn compare_tick(&self, before: &Record, answer: &linguastel::Answer) -> Result<(), String> {
+        let mut record = *before;
+        let ticked = record.tick();
+        if ticked == *answer && record == self.record {
+            return Ok(());
+        }
+        let answers = format!("call of number 0: {}\ntick: {}", answer_in_words(answer), answer_in_words(&ticked));
+        let states = format!("── call of number 0 ──\n{}\n── tick ──\n{}", words_of(&self.record), words_of(&record));
+        Err(format!("the kernel's tick differs from its call of number 0\n{answers}\n── before ──\n{}\n{states}", words_of(before)))
     }
 
     fn difference(&self, call: &Call, before: &Record, kernel: &linguastel::Answer, second: &Answer) -> Option<String> {

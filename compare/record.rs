@@ -287,3 +287,101 @@ fn write_mailbox(record: &mut Record, number: usize, mailbox: &Mailbox) {
         }
     }
 }
+
+#[cfg(test)]
+mod tests {
+    use super::*;
+    use second::random_sound_state;
+
+    /// What is written is read again, whatever stands in unused cells, and the kernel takes it for sound.
+    #[test]
+    fn round_trip() {
+        let mut random = Random::new(1);
+        for _ in 0..2000 {
+            let state = random_sound_state(&mut random);
+            let record = record_of(&state, &mut random);
+            assert!(state_of(&record).expect("a state can be read").equal(&state));
+            assert!(record.is_sound());
+            let other = record_of(&state, &mut random);
+            assert!(other != record && state_of(&other).is_some_and(|read| read.equal(&state)));
+        }
+    }
+
+    #[test]
+    fn empty_record() {
+        assert!(state_of(&Record::empty()).expect("a state can be read").equal(&State::empty(0)));
+    }
+
+    /// Each field that counts is read: a change in it is no longer equal, or no state.
+    #[test]
+    fn every_field_that_counts() {
+        let (record, state) = example();
+        let changes: [(&str, fn(&mut Record)); 18] = [
+            ("counter", |record| record.counter += 1),
+            ("priority", |record| record.waiting.key[1] += 1),
+            ("stored code", |record| record.tasks[1].code = 50),
+            ("stored word", |record| record.tasks[1].word += 1),
+            ("defined and suspended", |record| record.tasks[1].flags = 3),
+            ("kind of wait", |record| record.tasks[2].wait = RECEIVING),
+            ("object of the wait", |record| record.tasks[2].object += 1),
+            ("end tick", |record| record.tasks[2].end += 1),
+            ("whether there is an end", |record| record.tasks[2].timed = 0),
+            ("word of a sender", |record| record.tasks[2].sending += 1),
+            ("attribute of a queue", |record| record.queues[1].attribute = 0),
+            ("capacity", |record| record.queues[1].ring.capacity += 1),
+            ("count", |record| record.queues[1].ring.count -= 1),
+            ("where the ring starts", |record| record.queues[1].ring.head ^= 1),
+            ("head of the senders", |record| record.waiting.link[linguastel::SENDERS + 1] = 1),
+            ("attribute of a mailbox", |record| record.mailboxes[1].attribute = 3),
+            ("highest message priority", |record| record.mailboxes[1].highest += 1),
+            ("priority of a message", |record| record.messages.key[64] -= 1),
+        ];
+        for (field, change) in changes {
+            let mut changed = record;
+            change(&mut changed);
+            assert!(!state_of(&changed).is_some_and(|read| read.equal(&state)), "{field}");
+        }
+    }
+
+    /// Task 2 waits to send to a full queue, until a tick; a message is queued by priority.
+    fn example() -> (Record, State) {
+        let mut state = State::empty(7);
+        let mut reached = second::Reached::default();
+        let call = |number, caller, object, value, tmout, attribute| Call { number, caller, object, value, tmout, attribute, ..Call::default() };
+        let calls = [
+            call(1, 0, 1, 5, 0, 0),
+            call(1, 0, 2, 6, 0, 0),
+            call(2, 0, 1, 2, 0, 1),
+            call(5, 0, 1, 10, 0, 0),
+            call(5, 0, 1, 11, 0, 0),
+            call(6, 2, 1, 12, 9, 0),
+            call(12, 0, 1, 4, 0, 2),
+            call(14, 0, 1, 64, 0, 3),
+        ];
+        for call in calls {
+            state.play(&call, &mut reached);
+        }
+        (record_of(&state, &mut Random::new(5)), state)
+    }
+
+    #[test]
+    fn what_cannot_be_read() {
+        let (record, _) = example();
+        let changes: [(&str, fn(&mut Record)); 9] = [
+            ("chain that comes round", |record| record.waiting.link[2] = 2),
+            ("chain that leaves the table", |record| record.waiting.link[2] = 33),
+            ("messages that come round", |record| record.messages.link[64] = 64),
+            ("messages that leave the table", |record| record.messages.link[64] = 65),
+            ("flags", |record| record.tasks[3].flags = 4),
+            ("kind of wait", |record| record.tasks[3].wait = 4),
+            ("timed", |record| record.tasks[2].timed = 2),
+            ("defined", |record| record.queues[2].defined = 2),
+            ("where the ring starts", |record| record.queues[1].ring.head = 16),
+        ];
+        for (what, change) in changes {
+            let mut changed = record;
+            change(&mut changed);
+            assert!(state_of(&changed).is_none() && !changed.is_sound(), "{what}");
+        }
+    }
+}

@@ -95,8 +95,8 @@ impl Totals {
             if judged.unreadable + judged.unsound == 0 {
                 missing.push(format!("a record that isn't sound, by damage {kind:?}"));
             }
-            // Random bytes are never a sound record.
-            if judged.sound == 0 && *kind != Damage::Bytes {
+            // Random records are hardly ever sound.
+            if judged.sound == 0 && !matches!(kind, Damage::Bytes | Damage::Numbers) {
                 missing.push(format!("a record that is still sound, by damage {kind:?}"));
             }
         }
@@ -147,16 +147,26 @@ impl Totals {
     pub fn summary(&self) -> String {
         let mut text = String::new();
         for kind in [Kind::Empty, Kind::Wrap, Kind::States] {
-            text += &format!("{:>12} calls in {} runs: {}\n", self.calls[kind as usize], self.runs[kind as usize], kind.name());
-        }
-        let records = &self.records;
-        text += &format!("{:>12} damaged records, {} calls refused, {} calls compared on those still sound\n", records.records(), records.refused, records.played);
-        for (kind, judged) in DAMAGES.iter().zip(&records.judged) {
-            text += &format!("{:>12} {}, {} not sound, {} sound\n", format!("{kind:?}:"), judged.unreadable, judged.unsound, judged.sound);
+            text += &format!("{:>12}  calls compared, in {} runs of kind {}\n", self.calls[kind as usize], self.runs[kind as usize], kind.name());
         }
         let carriers = &self.carriers;
-        text += &format!("{:>12} merges of {} pairs of lists, {} calls", carriers.merges, carriers.pairs, carriers.calls);
-        text += &format!(", {} refused, {} waits\n", carriers.refused, carriers.waits);
+        text += &format!("{:>12}  calls in {} merges of {} pairs of lists", carriers.calls, carriers.merges, carriers.pairs);
+        text += &format!(", of which {} refused and {} wait\n", carriers.refused, carriers.waits);
+        text + &self.summary_of_records()
+    }
+
+    fn summary_of_records(&self) -> String {
+        let records = &self.records;
+        let mut text = format!("{:>12}  damaged records; {} calls on those that aren't sound", records.records(), records.refused);
+        text += &format!(", {} compared on those that still are\n", records.played);
+        for (kind, judged) in DAMAGES.iter().zip(&records.judged) {
+            let name = format!("{kind:?}");
+            let counts = format!("unreadable {:>7}  not sound {:>7}  sound {:>7}", judged.unreadable, judged.unsound, judged.sound);
+            text += &format!("{:>12}  {name:<9}{counts}\n", "");
+        }
+        for (fault, count) in &records.faults {
+            text += &format!("{count:>12}  not sound: {fault}\n");
+        }
         text
     }
 }

@@ -5,6 +5,7 @@ use crate::play::{first_change, words_of, Pair};
 use crate::record::{answer_in_words, kernel_call, record_of, state_of};
 use linguastel::{Record, E_PAR, E_SYS};
 use second::{random_call, Answer, Call, Profile, Random, Reached, State};
+use std::collections::BTreeMap;
 
 /// How many records there were, by the kind of damage.
 #[derive(Clone, Copy, Default)]
@@ -19,6 +20,8 @@ pub struct Judged {
 #[derive(Default)]
 pub struct Counts {
     pub judged: [Judged; DAMAGES.len()],
+    /// Why the second program found a state not sound, without the numbers.
+    pub faults: BTreeMap<String, u64>,
     /// Calls on records that aren't sound.
     pub refused: u64,
     /// Calls on those that were sound after all.
@@ -26,6 +29,19 @@ pub struct Counts {
 }
 
 impl Counts {
+    fn count(&mut self, way: usize, readable: bool, fault: Option<String>) {
+        let judged = &mut self.judged[way];
+        match fault {
+            _ if !readable => judged.unreadable += 1,
+            None => judged.sound += 1,
+            Some(text) => {
+                judged.unsound += 1;
+                let words: Vec<&str> = text.split(' ').filter(|word| word.parse::<u64>().is_err()).collect();
+                *self.faults.entry(words.join(" ")).or_default() += 1;
+            }
+        }
+    }
+
     pub fn records(&self) -> u64 {
         self.judged.iter().map(|counts| counts.sound + counts.unsound + counts.unreadable).sum()
     }
@@ -43,13 +59,9 @@ pub fn compare_damaged(state: &State, random: &mut Random, counts: &mut Counts, 
 
 fn compare_judgement(record: &Record, way: usize, random: &mut Random, counts: &mut Counts, reached: &mut Reached) -> Result<(), String> {
     let read = state_of(record);
-    let sound = read.as_ref().is_some_and(State::sound);
-    let judged = &mut counts.judged[way];
-    match (&read, sound) {
-        (None, _) => judged.unreadable += 1,
-        (Some(_), false) => judged.unsound += 1,
-        (Some(_), true) => judged.sound += 1,
-    }
+    let fault = read.as_ref().and_then(State::fault);
+    let sound = read.is_some() && fault.is_none();
+    counts.count(way, read.is_some(), fault);
     if record.is_sound() != sound {
         return Err(format!("the kernel's test says sound: {}, the second program: {sound}\n{}", !sound, words_of(record)));
     }
