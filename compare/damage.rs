@@ -13,6 +13,8 @@ pub enum Damage {
     Fields,
     /// One link of a chain that is in use: it comes round, runs into another chain or a head, leaves the table or ends too soon.
     Link,
+    /// The head of any chain, an empty one too, gets any number.
+    Head,
     /// Two numbers in a row of a chain change their places.
     Order,
     /// Count, capacity or head of a ring.
@@ -31,11 +33,12 @@ pub enum Damage {
     Counter,
 }
 
-pub const DAMAGES: [Damage; 12] = [
+pub const DAMAGES: [Damage; 13] = [
     Damage::Bytes,
     Damage::Numbers,
     Damage::Fields,
     Damage::Link,
+    Damage::Head,
     Damage::Order,
     Damage::Ring,
     Damage::Wait,
@@ -85,6 +88,7 @@ pub fn damage(record: &mut Record, damage: Damage, random: &mut Random) {
             }
         }
         Damage::Link => damage_link(record, random),
+        Damage::Head => damage_head(record, random),
         Damage::Order => damage_order(record, random),
         Damage::Ring => damage_ring(record, random),
         Damage::Wait => damage_wait(record, random),
@@ -203,6 +207,16 @@ fn damage_link(record: &mut Record, random: &mut Random) {
         2 => random.below(81) as u8,
         _ => other_byte(chains.link[cell], random),
     };
+}
+
+fn damage_head(record: &mut Record, random: &mut Random) {
+    let (chains, numbers) = if random.below(2) == 0 { (&mut record.waiting, TASKS) } else { (&mut record.messages, MESSAGES) };
+    let head = random.between(numbers as u32 + 1, 80) as usize;
+    let number = random.between(1, numbers as u32) as usize;
+    chains.link[head] = number as u8;
+    if random.below(2) == 0 {
+        chains.link[number] = 0;
+    }
 }
 
 fn damage_order(record: &mut Record, random: &mut Random) {

@@ -20,6 +20,10 @@ pub enum Kind {
     Carriers,
 }
 
+/// In how many ways the second program finds a state not sound, but for lists that are too long and numbers in them that are out of range: from such a
+/// record no state is read.
+const FAULTS: usize = 22;
+
 pub const KINDS: [Kind; 5] = [Kind::Empty, Kind::Wrap, Kind::States, Kind::Records, Kind::Carriers];
 
 impl Kind {
@@ -99,6 +103,9 @@ impl Totals {
             if judged.sound == 0 && !matches!(kind, Damage::Bytes | Damage::Numbers) {
                 missing.push(format!("a record that is still sound, by damage {kind:?}"));
             }
+        }
+        if self.records.faults.len() < FAULTS {
+            missing.push(format!("{} of {FAULTS} reasons why a state isn't sound", FAULTS - self.records.faults.len()));
         }
         missing
     }
