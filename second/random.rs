@@ -231,7 +231,7 @@ pub fn random_call(random: &mut Random, profile: &Profile, state: &State) -> Cal
         number,
         caller: 0,
         locked: false,
-        disabled: false,
+        disabled: random.percent(3),
         object: random.number(),
         value: random.number(),
         tmout: random_tmout(random, profile.kind),
@@ -289,9 +289,9 @@ fn weights(kind: Kind) -> &'static [u32; 24] {
     }
 }
 
-/// Calls that help when no task is able to call.
+/// Calls that help when no task is able to call, and a handler may make.
 const RELIEF: [u32; 8] =
-    [REL_WAI, PSND_DTQ, PRCV_DTQ, FSND_DTQ, SND_MBX, PRCV_MBX, RSM_TSK, RSM_TSK];
+    [REL_WAI, REL_WAI, PSND_DTQ, PRCV_DTQ, FSND_DTQ, SND_MBX, PRCV_MBX, LOOK];
 
 fn random_number(random: &mut Random, profile: &Profile, state: &State) -> u32 {
     if let Some(number) = number_to_define(random, profile, state) {
@@ -306,7 +306,11 @@ fn random_number(random: &mut Random, profile: &Profile, state: &State) -> u32 {
     }
     let able = profile.own.tasks.iter().any(|&task| state.task(task).able());
     if needs_task(number) && !able && random.percent(95) {
+        let suspended = profile.own.tasks.iter().any(|&task| state.task(task).suspended);
         number = random.pick(&RELIEF);
+        if suspended && random.percent(40) {
+            number = RSM_TSK;
+        }
     }
     if number == TICK && !profile.ticks {
         number = LOOK;
@@ -391,6 +395,9 @@ fn choose_caller(random: &mut Random, profile: &Profile, state: &State, call: &m
 /// something where possible. Other calls keep the number that they have.
 fn choose_object(random: &mut Random, profile: &Profile, state: &State, call: &mut Call) {
     let own = &profile.own;
+    if random.percent(4) {
+        return spoil_object(random, own, call);
+    }
     call.object = match call.number {
         DEFINE_TASK => search(random, &own.tasks, |task| !state.task(task).exists),
         CRE_DTQ => search(random, &own.queues, |queue| !state.queue(queue).exists),
@@ -471,16 +478,22 @@ fn spoil(random: &mut Random, profile: &Profile, call: &mut Call) {
         4 => call.caller = random.pick(&[33, 34, 100, 65_536, u32::MAX]),
         5 => call.object = invalid(random),
         6 => spoil_object(random, own, call),
-        7 => call.tmout = random.pick(&[0, 0, -2, -3, i32::MIN, i32::MAX]),
-        8 => call.attribute = random.pick(&[0, 2, 3, 4, 17, u32::MAX]),
+        7 if matches!(call.number, TSND_DTQ | TRCV_DTQ | TRCV_MBX) => {
+            call.tmout = random.pick(&[0, 0, -2, -3, i32::MIN, i32::MAX])
+        }
+        7 | 8 => call.attribute = random.pick(&[0, 0, 2, 4, 17, u32::MAX]),
         9 if call.number == SND_MBX => call.value = search(random, &own.messages, |_| true),
+        9 if call.number == CRE_MBX => {
+            call.attribute = random.between(2, 3);
+            call.value = random.pick(&[0, 17, u32::MAX]);
+        }
         9 | 10 => call.value = invalid(random),
         _ => call.number = random.pick(&[24, 25, 100, 256, 65_536, u32::MAX]),
     }
 }
 
-/// Any own number of the right kind, fitting or not, or one above the limit.
-/// A number that is invalid for this kind may be above its limit only.
+/// Any own number of the right kind, fitting or not, or the one next above
+/// the limit of that kind.
 fn spoil_object(random: &mut Random, own: &Own, call: &mut Call) {
     let (list, limit) = match call.number {
         CRE_DTQ..=REF_DTQ => (&own.queues, QUEUES),

@@ -42,7 +42,9 @@ fn define_task(random: &mut Random, task: &mut Task) {
     task.priority = random.priority();
     task.suspended = random.percent(20);
     task.code = random.pick(&[0, 0, -49, -50, -51]);
-    if task.code == 0 {
+    // A wait that ended otherwise than with E_OK leaves the word 0, but the
+    // section on sound records does not ask this.
+    if task.code == 0 || random.percent(5) {
         task.word = random.number();
     }
 }
@@ -135,9 +137,12 @@ fn place_waiter(random: &mut Random, state: &mut State, task: u32, object: u32, 
     } else {
         return;
     }
-    // A wait sets the stored pair to 0 and 0.
-    entry.code = 0;
-    entry.word = 0;
+    // A wait sets the stored pair to 0 and 0, but the section on sound records
+    // does not ask this of a waiting task.
+    if random.percent(90) {
+        entry.code = 0;
+        entry.word = 0;
+    }
 }
 
 /// No end, or an end tick that is not too far away.

@@ -12,7 +12,7 @@ impl State {
         if let Some(code) = refusal(self, call, reached) {
             return Answer::refused(code);
         }
-        reached.accepted(call.number);
+        reached.accepted(call);
         match call.number {
             TICK => self.tick(reached),
             DEFINE_TASK => self.define_task(call),

@@ -235,3 +235,223 @@ fn run_16() {
         run.expect(Call { tmout, ..call(TRCV_DTQ, caller, queue, 0) }, Answer::refused(code));
     }
 }
+
+/// Two conditions at once: the earlier step gives the code.
+#[test]
+fn order_of_the_error_table() {
+    let mut run = Run::start();
+    run.refused(24, 99, 0, 0, E_PAR);
+    let locked = Call { locked: true, ..call(SND_DTQ, 99, 0, 0) };
+    run.expect(locked, Answer::refused(E_SYS));
+    run.expect(Call { caller: 1, ..locked }, Answer::refused(E_CTX));
+    run.expect(Call { locked: true, ..call(LOOK, 0, 99, 0) }, Answer::refused(E_CTX));
+    // A handler may suspend while dispatching is disabled, a task may suspend
+    // another one, but not itself.
+    let disabled = Call { disabled: true, ..call(SUS_TSK, 1, 1, 0) };
+    run.expect(disabled, Answer::refused(E_CTX));
+    run.expect(Call { caller: 0, object: 0, ..disabled }, Answer::refused(E_ID));
+    run.expect(Call { object: 2, ..disabled }, Answer::done(0, 0, 0));
+    run.expect(Call { caller: 0, object: 2, ..disabled }, Answer::refused(E_QOVR));
+    // Step 4 is before step 5, step 6a before step 6b.
+    run.refused(SND_MBX, 1, 2, 65, E_PAR);
+    run.refused(SND_MBX, 1, 2, 64, E_NOEXS);
+    run.message(1, 64, 1, Answer::done(0, 0, 0));
+    run.message(1, 64, 9, Answer::refused(E_PAR));
+    run.refused(DEFINE_TASK, 0, 1, 0, E_PAR);
+    run.refused(DEFINE_TASK, 0, 1, 1, E_OBJ);
+    // Highest message priority counts with attribute 2 or 3 only.
+    run.ok(CRE_MBX, 0, 2, 99);
+    run.expect(Call { attribute: 3, ..call(CRE_MBX, 0, 3, 17) }, Answer::refused(E_PAR));
+    run.expect(Call { attribute: 4, ..call(CRE_MBX, 0, 3, 1) }, Answer::refused(E_PAR));
+}
+
+#[test]
+fn time_out_limits() {
+    let mut run = Run::start();
+    let timed = |tmout| Call { tmout, ..call(TRCV_MBX, 1, 1, 0) };
+    run.expect(timed(i32::MAX), Answer::refused(E_PAR));
+    run.expect(timed(-2), Answer::refused(E_PAR));
+    run.expect(timed(0), Answer::refused(E_TMOUT));
+    run.expect(timed(2_147_483_646), Answer::Waits { place: 0 });
+    assert_eq!(run.state.task(1).wait, Wait::AtMailbox { mailbox: 1, end: Some(2_147_483_646) });
+    run.expect(Call { caller: 2, ..timed(-1) }, Answer::Waits { place: 1 });
+    assert_eq!(run.state.task(2).wait, Wait::AtMailbox { mailbox: 1, end: None });
+}
+
+/// A time-out withdraws the word of the sender, and several end in one tick.
+#[test]
+fn several_time_outs_in_one_tick() {
+    let mut run = Run::from(u32::MAX);
+    for (task, tmout) in [(3, 2), (1, 2), (2, 3)] {
+        let send = Call { tmout, ..call(TSND_DTQ, task, 2, task) };
+        let place = if task == 1 { 1 } else { 0 };
+        run.expect(send, Answer::Waits { place });
+    }
+    run.ok(SUS_TSK, 0, 1, 0);
+    run.tick(0);
+    assert_eq!(run.state.counter, 0);
+    run.tick(2);
+    run.fetch(1, E_TMOUT, 0);
+    run.gives(LOOK, 0, 1, 0, [0, 0, 1]);
+    run.gives(LOOK, 0, 2, 0, [1, 2, 0]);
+    run.polls(4, 2, &[2]);
+    run.tick(0);
+    run.refused(PRCV_DTQ, 4, 2, 0, E_TMOUT);
+}
+
+#[test]
+fn mailbox_delete_and_waiters_by_priority() {
+    let mut run = Run::start();
+    run.expect(Call { attribute: 1, ..call(CRE_MBX, 0, 2, 0) }, Answer::done(0, 0, 0));
+    run.waits(RCV_MBX, 1, 2, 0, 0);
+    run.waits(RCV_MBX, 2, 2, 0, 0);
+    run.waits(RCV_MBX, 3, 2, 0, 2);
+    run.gives(REF_MBX, 0, 2, 0, [2, 0, 0]);
+    // The message goes to the head waiter and is free again at once.
+    run.ok(SND_MBX, 4, 2, 9);
+    run.fetch(2, E_OK, 9);
+    run.ok(SND_MBX, 4, 2, 9);
+    run.fetch(1, E_OK, 9);
+    run.ok(DEL_MBX, 4, 2, 0);
+    run.fetch(3, E_DLT, 0);
+    // Messages of a deleted mailbox are free again.
+    run.message(4, 9, 2, Answer::done(0, 0, 0));
+    run.ok(DEL_MBX, 4, 1, 0);
+    run.ok(CRE_MBX, 4, 2, 0);
+    run.ok(SND_MBX, 4, 2, 9);
+    run.gives(REF_MBX, 0, 2, 0, [0, 9, 0]);
+}
+
+/// Makes a change in the start of the runs, with task 1 sending at queue 2
+/// and message 7 queued, and tells whether the state is sound then.
+fn sound_after(change: impl Fn(&mut State)) -> bool {
+    let mut run = Run::start();
+    run.waits(SND_DTQ, 1, 2, 1, 0);
+    run.message(2, 7, 4, Answer::done(0, 0, 0));
+    change(&mut run.state);
+    run.state.sound()
+}
+
+#[test]
+fn sentences_on_tasks() {
+    assert!(sound_after(|_| {}));
+    assert!(!sound_after(|state| state.tasks[1].wait = Wait::No));
+    assert!(!sound_after(|state| state.queues[2].senders.clear()));
+    assert!(!sound_after(|state| state.queues[2].senders.push(1)));
+    assert!(!sound_after(|state| state.queues[2].senders.push(2)));
+    assert!(!sound_after(|state| state.queues[2].senders.push(0)));
+    assert!(!sound_after(|state| state.queues[2].senders.push(33)));
+    assert!(!sound_after(|state| state.tasks[1].exists = false));
+    assert!(!sound_after(|state| state.tasks[5].suspended = true));
+    assert!(!sound_after(|state| state.tasks[1].priority = 0));
+    assert!(!sound_after(|state| state.tasks[1].priority = 17));
+    assert!(sound_after(|state| state.tasks[5].priority = 17));
+    assert!(!sound_after(|state| state.tasks[2].code = -17));
+    assert!(sound_after(|state| state.tasks[5].code = -17));
+    for (away, sound) in [(0, false), (1, true), (LARGEST_TMOUT, true), (1 << 31, false)] {
+        let wait = Wait::Sending { queue: 2, word: 1, end: Some(away) };
+        assert_eq!(sound_after(|state| state.tasks[1].wait = wait.clone()), sound);
+    }
+    // Task 3 has priority 5 as task 1, task 4 has 3.
+    let sending = Wait::Sending { queue: 2, word: 1, end: None };
+    for (task, sound) in [(3, true), (4, false)] {
+        assert_eq!(
+            sound_after(|state| {
+                state.tasks[task as usize].wait = sending.clone();
+                state.queues[2].senders.push(task);
+            }),
+            sound
+        );
+    }
+}
+
+#[test]
+fn sentences_on_objects() {
+    assert!(!sound_after(|state| state.queues[2].exists = false));
+    assert!(!sound_after(|state| state.queues[2].capacity = 1));
+    assert!(!sound_after(|state| state.queues[1].capacity = 17));
+    assert!(!sound_after(|state| state.queues[1].attribute = 2));
+    assert!(!sound_after(|state| state.queues[1].words = vec![1, 2, 3]));
+    assert!(sound_after(|state| state.queues[1].words = vec![1, 2]));
+    assert!(!sound_after(|state| state.queues[3].words = vec![1]));
+    assert!(!sound_after(|state| state.mailboxes[1].highest = 3));
+    assert!(!sound_after(|state| state.mailboxes[1].highest = 17));
+    assert!(!sound_after(|state| state.mailboxes[1].attribute = 4));
+    assert!(!sound_after(|state| state.mailboxes[1].exists = false));
+    let second = Message { number: 7, priority: 4 };
+    assert!(!sound_after(|state| state.mailboxes[1].messages.push(second.clone())));
+    let smaller = Message { number: 8, priority: 3 };
+    assert!(!sound_after(|state| state.mailboxes[1].messages.push(smaller.clone())));
+    let none = Message { number: 8, priority: 0 };
+    assert!(!sound_after(|state| state.mailboxes[1].messages.push(none.clone())));
+    let equal = Message { number: 64, priority: 4 };
+    assert!(sound_after(|state| state.mailboxes[1].messages.push(equal.clone())));
+    let above = Message { number: 65, priority: 4 };
+    assert!(!sound_after(|state| state.mailboxes[1].messages.push(above.clone())));
+    assert!(!sound_after(|state| {
+        state.tasks[2].wait = Wait::AtMailbox { mailbox: 1, end: None };
+        state.mailboxes[1].waiters.push(2);
+    }));
+}
+
+#[test]
+fn equality_ignores_unused_fields_only() {
+    let start = Run::start().state;
+    let equal_after = |change: fn(&mut State)| {
+        let mut state = start.clone();
+        change(&mut state);
+        state.equal(&start)
+    };
+    assert!(equal_after(|state| state.tasks[0].exists = true));
+    assert!(equal_after(|state| state.tasks[5].priority = 9));
+    assert!(equal_after(|state| state.queues[5].capacity = 9));
+    assert!(equal_after(|state| state.mailboxes[5].attribute = 9));
+    assert!(!equal_after(|state| state.counter = 1));
+    assert!(!equal_after(|state| state.tasks[5].exists = true));
+    assert!(!equal_after(|state| state.tasks[4].priority = 4));
+    assert!(!equal_after(|state| state.tasks[4].suspended = true));
+    assert!(!equal_after(|state| state.tasks[4].word = 1));
+    assert!(!equal_after(|state| state.queues[1].capacity = 3));
+    assert!(!equal_after(|state| state.queues[1].words.push(3)));
+    assert!(!equal_after(|state| state.mailboxes[1].highest = 3));
+    assert!(!equal_after(|state| state.mailboxes[1].attribute = 3));
+}
+
+#[test]
+fn random_states_are_sound() {
+    let mut random = Random::new(3);
+    for _ in 0..2_000 {
+        assert_eq!(random_sound_state(&mut random).fault(), None);
+        assert!(!random_unsound_state(&mut random).sound());
+    }
+}
+
+/// Every valid number that a restricted call names is of its own.
+#[test]
+fn restricted_calls_name_their_own_only() {
+    let mut random = Random::new(4);
+    let mut reached = Reached::new();
+    for turn in 0..220 {
+        let (mut own, _) = Own::split(&mut random);
+        own.cut(turn % 7, turn % 3, turn % 5);
+        let profile = Profile::restricted(KINDS[turn % KINDS.len()], own.clone());
+        let mut state = random_sound_state(&mut random);
+        for _ in 0..100 {
+            let call = random_call(&mut random, &profile, &state);
+            assert!(call.number != TICK);
+            assert!(call.caller == 0 || is_own(&own.tasks, TASKS, call.caller));
+            assert!(match call.number {
+                CRE_DTQ..=REF_DTQ => is_own(&own.queues, QUEUES, call.object),
+                CRE_MBX..=REF_MBX => is_own(&own.mailboxes, MAILBOXES, call.object),
+                1..=FETCH => is_own(&own.tasks, TASKS, call.object),
+                _ => true,
+            });
+            assert!(call.number != SND_MBX || is_own(&own.messages, MESSAGES, call.value));
+            state.play(&call, &mut reached);
+        }
+    }
+}
+
+fn is_own(list: &[u32], limit: u32, number: u32) -> bool {
+    list.contains(&number) || number < 1 || number > limit
+}
