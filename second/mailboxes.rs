@@ -88,11 +88,11 @@ impl State {
         }
         let end = self.end_tick(call, call.number == TRCV_MBX);
         let mailbox = self.mailbox(call.object);
-        let place = match mailbox.waiters_by_priority() {
+        let ordered = mailbox.waiters_by_priority();
+        let place = match ordered {
             true => self.place_by_priority(&mailbox.waiters, call.caller),
             false => mailbox.waiters.len(),
         };
-        let ordered = mailbox.waiters_by_priority();
         if ordered && self.between_equal_and_larger(&mailbox.waiters, call.caller) {
             reached.note(Path::MailboxWaiterBehindEquals);
         }

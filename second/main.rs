@@ -14,7 +14,8 @@ const LENGTH: u64 = 400;
 const SHORT_LENGTH: u64 = 5;
 
 fn main() {
-    let arguments: Vec<u64> = std::env::args().skip(1).filter_map(|text| text.parse().ok()).collect();
+    let arguments = std::env::args().skip(1).filter_map(|text| text.parse().ok());
+    let arguments: Vec<u64> = arguments.collect();
     let [count, seed] = arguments[..] else {
         eprintln!("usage: second COUNT SEED");
         exit(2);

@@ -72,11 +72,12 @@ impl State {
     fn wait_to_send(&mut self, call: &Call, reached: &mut Reached) -> Answer {
         let end = self.end_tick(call, call.number == TSND_DTQ);
         let queue = self.queue(call.object);
-        let place = match queue.senders_by_priority() {
+        let ordered = queue.senders_by_priority();
+        let place = match ordered {
             true => self.place_by_priority(&queue.senders, call.caller),
             false => queue.senders.len(),
         };
-        if queue.senders_by_priority() && self.between_equal_and_larger(&queue.senders, call.caller) {
+        if ordered && self.between_equal_and_larger(&queue.senders, call.caller) {
             reached.note(Path::SenderBehindEquals);
         }
         self.queues[call.object as usize].senders.insert(place, call.caller);

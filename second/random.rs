@@ -138,6 +138,20 @@ fn others(list: &[u32], limit: u32) -> Vec<u32> {
     (1..=limit).filter(|number| !list.contains(number)).collect()
 }
 
+/// A random merge of two lists of calls: every call of both, each list in its
+/// order. With each call stands whether it is of the first list.
+pub fn random_merge(random: &mut Random, one: &[Call], two: &[Call]) -> Vec<(bool, Call)> {
+    let (mut first, mut second) = (one.iter(), two.iter());
+    let mut merge = Vec::new();
+    while merge.len() < one.len() + two.len() {
+        let left = first.len() as u32;
+        let is_first = random.below(left + second.len() as u32) < left;
+        let next = if is_first { first.next() } else { second.next() };
+        merge.extend(next.map(|call| (is_first, *call)));
+    }
+    merge
+}
+
 /// What a sequence of random calls is after.
 #[derive(Clone, Copy, PartialEq, Eq, Debug)]
 pub enum Kind {

@@ -182,13 +182,13 @@ fn shuffle(random: &mut Random, list: &mut [u32]) {
 pub fn random_unsound_state(random: &mut Random) -> State {
     let mut state = random_sound_state(random);
     while state.sound() {
-        change(random, &mut state);
+        change_state(random, &mut state);
     }
     state
 }
 
 /// Changes one thing in the state, which may be sound afterwards or not.
-pub fn change(random: &mut Random, state: &mut State) {
+pub fn change_state(random: &mut Random, state: &mut State) {
     match random.below(8) {
         0 => state.counter = random.number(),
         1 => state.counter = state.counter.wrapping_add(random.between(1, 40)),

@@ -198,7 +198,13 @@ impl Queue {
 
 impl Mailbox {
     pub fn undefined() -> Mailbox {
-        Mailbox { exists: false, attribute: 0, highest: 0, waiters: Vec::new(), messages: Vec::new() }
+        Mailbox {
+            exists: false,
+            attribute: 0,
+            highest: 0,
+            waiters: Vec::new(),
+            messages: Vec::new(),
+        }
     }
 
     pub fn waiters_by_priority(&self) -> bool {

@@ -455,3 +455,49 @@ fn restricted_calls_name_their_own_only() {
 fn is_own(list: &[u32], limit: u32, number: u32) -> bool {
     list.contains(&number) || number < 1 || number > limit
 }
+
+/// Plays a list and gives the answers.
+fn answers(state: &mut State, calls: &[Call]) -> Vec<Answer> {
+    let mut reached = Reached::new();
+    calls.iter().map(|call| state.play(call, &mut reached)).collect()
+}
+
+/// Calls that a guided sequence made, from an empty state.
+fn own_calls(random: &mut Random, profile: &Profile) -> Vec<Call> {
+    let mut state = State::empty(0);
+    let mut reached = Reached::new();
+    let mut calls = Vec::new();
+    for _ in 0..300 {
+        let call = random_call(random, profile, &state);
+        state.play(&call, &mut reached);
+        calls.push(call);
+    }
+    calls
+}
+
+/// Two carriers that share nothing do not notice each other in a merge.
+#[test]
+fn merges_of_two_carriers() {
+    let mut random = Random::new(9);
+    for turn in 0..44 {
+        let (mut one, mut two) = Own::split(&mut random);
+        one.cut(6, 2, 5);
+        two.cut(6, 2, 5);
+        let kind = KINDS[turn % KINDS.len()];
+        let first = own_calls(&mut random, &Profile::restricted(kind, one));
+        let second = own_calls(&mut random, &Profile::restricted(kind, two));
+        let (mut alone, mut merged) = (State::empty(0), State::empty(0));
+        let first_answers = answers(&mut alone, &first);
+        let second_answers = answers(&mut alone, &second);
+        let merge = random_merge(&mut random, &first, &second);
+        let calls: Vec<Call> = merge.iter().map(|(_, call)| *call).collect();
+        let merged_answers = answers(&mut merged, &calls);
+        let of = |list: bool| {
+            let pairs = merge.iter().zip(&merged_answers);
+            pairs.filter(|((is, _), _)| *is == list).map(|(_, a)| *a).collect::<Vec<_>>()
+        };
+        assert_eq!(of(true), first_answers);
+        assert_eq!(of(false), second_answers);
+        assert!(alone.equal(&merged));
+    }
+}
