@@ -46,8 +46,8 @@ pub(crate) fn refusal(state: &State, call: &Call, reached: &mut Reached) -> Opti
 }
 
 fn first_row(state: &State, call: &Call) -> Option<(i32, Path)> {
-    let first = row(E_PAR, step_0_call_number(call))
-        .or_else(|| row(E_SYS, step_1_state(state, call)));
+    let first =
+        row(E_PAR, step_0_call_number(call)).or_else(|| row(E_SYS, step_1_state(state, call)));
     // The tick has the test of the state only.
     if first.is_some() || call.number == TICK {
         return first;
@@ -257,17 +257,29 @@ fn step_6d_forced_send(state: &State, call: &Call) -> Option<Path> {
         return None;
     }
     let queue = state.queue(call.object);
-    when(queue.capacity == 0 && queue.receivers.is_empty(), Path::ForcedSendWithoutRoom)
+    when(
+        queue.capacity == 0 && queue.receivers.is_empty(),
+        Path::ForcedSendWithoutRoom,
+    )
 }
 
 fn step_7_would_wait(state: &State, call: &Call) -> Option<Path> {
     let (path, would_wait) = match call.number {
         PSND_DTQ => (Path::PollPsndDtq, state.send_would_wait(call.object)),
-        TSND_DTQ => (Path::PollTsndDtq, call.tmout == 0 && state.send_would_wait(call.object)),
+        TSND_DTQ => (
+            Path::PollTsndDtq,
+            call.tmout == 0 && state.send_would_wait(call.object),
+        ),
         PRCV_DTQ => (Path::PollPrcvDtq, state.receive_would_wait(call.object)),
-        TRCV_DTQ => (Path::PollTrcvDtq, call.tmout == 0 && state.receive_would_wait(call.object)),
+        TRCV_DTQ => (
+            Path::PollTrcvDtq,
+            call.tmout == 0 && state.receive_would_wait(call.object),
+        ),
         PRCV_MBX => (Path::PollPrcvMbx, state.mailbox_would_wait(call.object)),
-        TRCV_MBX => (Path::PollTrcvMbx, call.tmout == 0 && state.mailbox_would_wait(call.object)),
+        TRCV_MBX => (
+            Path::PollTrcvMbx,
+            call.tmout == 0 && state.mailbox_would_wait(call.object),
+        ),
         _ => return None,
     };
     when(would_wait, path)

@@ -80,8 +80,14 @@ impl State {
         if ordered && self.between_equal_and_larger(&queue.senders, call.caller) {
             reached.note(Path::SenderBehindEquals);
         }
-        self.queues[call.object as usize].senders.insert(place, call.caller);
-        let wait = Wait::Sending { queue: call.object, word: call.value, end };
+        self.queues[call.object as usize]
+            .senders
+            .insert(place, call.caller);
+        let wait = Wait::Sending {
+            queue: call.object,
+            word: call.value,
+            end,
+        };
         self.begin_wait(call, wait, place, reached)
     }
 
@@ -112,8 +118,18 @@ impl State {
         // Receivers always wait in order of arrival.
         let end = self.end_tick(call, call.number == TRCV_DTQ);
         let place = queue.receivers.len();
-        self.queues[call.object as usize].receivers.push(call.caller);
-        self.begin_wait(call, Wait::Receiving { queue: call.object, end }, place, reached)
+        self.queues[call.object as usize]
+            .receivers
+            .push(call.caller);
+        self.begin_wait(
+            call,
+            Wait::Receiving {
+                queue: call.object,
+                end,
+            },
+            place,
+            reached,
+        )
     }
 
     /// Takes the head sender off the list, ends its wait with E_OK and gives

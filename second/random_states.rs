@@ -127,13 +127,20 @@ fn place_waiter(random: &mut Random, state: &mut State, task: u32, object: u32, 
     let choice = random.below(3);
     if choice == 0 && queue.exists && queue.full() && queue.receivers.is_empty() {
         queue.senders.push(task);
-        entry.wait = Wait::Sending { queue: object, word: random.number(), end };
+        entry.wait = Wait::Sending {
+            queue: object,
+            word: random.number(),
+            end,
+        };
     } else if choice == 1 && queue.exists && queue.words.is_empty() && queue.senders.is_empty() {
         queue.receivers.push(task);
         entry.wait = Wait::Receiving { queue: object, end };
     } else if mailbox.exists && mailbox.messages.is_empty() {
         mailbox.waiters.push(task);
-        entry.wait = Wait::AtMailbox { mailbox: object, end };
+        entry.wait = Wait::AtMailbox {
+            mailbox: object,
+            end,
+        };
     } else {
         return;
     }
@@ -161,12 +168,16 @@ fn put_in_order(state: &mut State) {
     let tasks = &state.tasks;
     for queue in &mut state.queues {
         if queue.senders_by_priority() {
-            queue.senders.sort_by_key(|&task| tasks[task as usize].priority);
+            queue
+                .senders
+                .sort_by_key(|&task| tasks[task as usize].priority);
         }
     }
     for mailbox in &mut state.mailboxes {
         if mailbox.waiters_by_priority() {
-            mailbox.waiters.sort_by_key(|&task| tasks[task as usize].priority);
+            mailbox
+                .waiters
+                .sort_by_key(|&task| tasks[task as usize].priority);
         }
     }
 }
@@ -226,9 +237,16 @@ fn random_wait(random: &mut Random, counter: u32) -> Wait {
     };
     match random.below(4) {
         0 => Wait::No,
-        1 => Wait::Sending { queue: object, word: random.number(), end },
+        1 => Wait::Sending {
+            queue: object,
+            word: random.number(),
+            end,
+        },
         2 => Wait::Receiving { queue: object, end },
-        _ => Wait::AtMailbox { mailbox: object, end },
+        _ => Wait::AtMailbox {
+            mailbox: object,
+            end,
+        },
     }
 }
 
@@ -265,7 +283,10 @@ fn change_mailbox(random: &mut Random, state: &mut State) {
         }
         _ => {
             let number = random.number();
-            mailbox.messages.push(Message { number, priority: random.priority() });
+            mailbox.messages.push(Message {
+                number,
+                priority: random.priority(),
+            });
         }
     }
 }

@@ -241,7 +241,10 @@ impl Reached {
 
     /// Forgets the run so far; the counts stay.
     pub fn start_sequence(&mut self) {
-        *self = Reached { counts: self.counts, ..Reached::new() };
+        *self = Reached {
+            counts: self.counts,
+            ..Reached::new()
+        };
     }
 
     /// Adds the counts of another run.
@@ -337,7 +340,10 @@ impl Reached {
 
     pub(crate) fn wait_begun(&mut self, call: &Call, wait: &Wait, place: usize, counter: u32) {
         self.begun[call.caller as usize] = Some(counter);
-        self.note_if(wait.end().is_some() && call.tmout == 2_147_483_646, Path::LargestTmout);
+        self.note_if(
+            wait.end().is_some() && call.tmout == 2_147_483_646,
+            Path::LargestTmout,
+        );
         let (ever, finite) = match call.number {
             TSND_DTQ => (Path::ForEverTsndDtq, Path::FiniteTsndDtq),
             TRCV_DTQ => (Path::ForEverTrcvDtq, Path::FiniteTrcvDtq),

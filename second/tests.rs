@@ -11,13 +11,28 @@ struct Run {
 impl Run {
     /// The start that the sixteen runs share.
     fn from(counter: u32) -> Run {
-        let mut run = Run { state: State::empty(counter), reached: Reached::new() };
+        let mut run = Run {
+            state: State::empty(counter),
+            reached: Reached::new(),
+        };
         for (task, priority) in [(1, 5), (2, 3), (3, 5), (4, 3)] {
             run.ok(DEFINE_TASK, 0, task, priority);
         }
         run.expect(call(CRE_DTQ, 0, 1, 2), Answer::done(0, 0, 0));
-        run.expect(Call { attribute: 1, ..call(CRE_DTQ, 0, 2, 0) }, Answer::done(0, 0, 0));
-        run.expect(Call { attribute: 2, ..call(CRE_MBX, 0, 1, 4) }, Answer::done(0, 0, 0));
+        run.expect(
+            Call {
+                attribute: 1,
+                ..call(CRE_DTQ, 0, 2, 0)
+            },
+            Answer::done(0, 0, 0),
+        );
+        run.expect(
+            Call {
+                attribute: 2,
+                ..call(CRE_MBX, 0, 1, 4)
+            },
+            Answer::done(0, 0, 0),
+        );
         run
     }
 
@@ -27,7 +42,11 @@ impl Run {
 
     fn expect(&mut self, call: Call, answer: Answer) {
         let before = self.state.clone();
-        assert_eq!(self.state.play(&call, &mut self.reached), answer, "{call} from\n{before}");
+        assert_eq!(
+            self.state.play(&call, &mut self.reached),
+            answer,
+            "{call} from\n{before}"
+        );
         assert_eq!(self.state.fault(), None);
     }
 
@@ -51,7 +70,12 @@ impl Run {
     }
 
     fn fetch(&mut self, task: u32, code: i32, word: u32) {
-        let answer = Answer::Finished { code, a: word, b: 0, c: 0 };
+        let answer = Answer::Finished {
+            code,
+            a: word,
+            b: 0,
+            c: 0,
+        };
         self.expect(call(FETCH, 0, task, 0), answer);
     }
 
@@ -67,12 +91,24 @@ impl Run {
     }
 
     fn message(&mut self, caller: u32, message: u32, priority: u32, answer: Answer) {
-        self.expect(Call { attribute: priority, ..call(SND_MBX, caller, 1, message) }, answer);
+        self.expect(
+            Call {
+                attribute: priority,
+                ..call(SND_MBX, caller, 1, message)
+            },
+            answer,
+        );
     }
 }
 
 fn call(number: u32, caller: u32, object: u32, value: u32) -> Call {
-    Call { number, caller, object, value, ..Call::default() }
+    Call {
+        number,
+        caller,
+        object,
+        value,
+        ..Call::default()
+    }
 }
 
 #[test]
@@ -166,7 +202,13 @@ fn run_9() {
 /// Runs 10 and 11 differ in the counter at the start.
 fn time_out_after_two_ticks(counter: u32) -> u32 {
     let mut run = Run::from(counter);
-    run.expect(Call { tmout: 2, ..call(TRCV_DTQ, 1, 1, 0) }, Answer::Waits { place: 0 });
+    run.expect(
+        Call {
+            tmout: 2,
+            ..call(TRCV_DTQ, 1, 1, 0)
+        },
+        Answer::Waits { place: 0 },
+    );
     run.tick(0);
     run.tick(1);
     run.fetch(1, E_TMOUT, 0);
@@ -229,53 +271,119 @@ fn run_15() {
 #[test]
 fn run_16() {
     let mut run = Run::start();
-    for (caller, queue, tmout, code) in
-        [(0, 99, -2, E_CTX), (1, 99, -2, E_ID), (1, 3, -2, E_PAR), (1, 3, 0, E_NOEXS)]
-    {
-        run.expect(Call { tmout, ..call(TRCV_DTQ, caller, queue, 0) }, Answer::refused(code));
+    for (caller, queue, tmout, code) in [
+        (0, 99, -2, E_CTX),
+        (1, 99, -2, E_ID),
+        (1, 3, -2, E_PAR),
+        (1, 3, 0, E_NOEXS),
+    ] {
+        run.expect(
+            Call {
+                tmout,
+                ..call(TRCV_DTQ, caller, queue, 0)
+            },
+            Answer::refused(code),
+        );
     }
 }
 
 /// Two conditions at once: the earlier step gives the code.
 #[test]
-fn order_of_the_error_table() {
+fn order_of_steps_0_to_3() {
     let mut run = Run::start();
     run.refused(24, 99, 0, 0, E_PAR);
-    let locked = Call { locked: true, ..call(SND_DTQ, 99, 0, 0) };
-    run.expect(locked, Answer::refused(E_SYS));
-    run.expect(Call { caller: 1, ..locked }, Answer::refused(E_CTX));
-    run.expect(Call { locked: true, ..call(LOOK, 0, 99, 0) }, Answer::refused(E_CTX));
-    // A handler may suspend while dispatching is disabled, a task may suspend
-    // another one, but not itself.
-    let disabled = Call { disabled: true, ..call(SUS_TSK, 1, 1, 0) };
-    run.expect(disabled, Answer::refused(E_CTX));
-    run.expect(Call { caller: 0, object: 0, ..disabled }, Answer::refused(E_ID));
-    run.expect(Call { object: 2, ..disabled }, Answer::done(0, 0, 0));
-    run.expect(Call { caller: 0, object: 2, ..disabled }, Answer::refused(E_QOVR));
-    // Step 4 is before step 5, step 6a before step 6b.
+    let mut attempt = call(SND_DTQ, 99, 0, 0);
+    attempt.locked = true;
+    run.expect(attempt, Answer::refused(E_SYS));
+    attempt.caller = 1;
+    run.expect(attempt, Answer::refused(E_CTX));
+    attempt.number = LOOK;
+    run.expect(attempt, Answer::refused(E_CTX));
+    attempt.locked = false;
+    run.expect(attempt, Answer::refused(E_ID));
+}
+
+#[test]
+fn order_of_steps_4_to_6() {
+    let mut run = Run::start();
     run.refused(SND_MBX, 1, 2, 65, E_PAR);
     run.refused(SND_MBX, 1, 2, 64, E_NOEXS);
     run.message(1, 64, 1, Answer::done(0, 0, 0));
     run.message(1, 64, 9, Answer::refused(E_PAR));
+    run.message(1, 64, 2, Answer::refused(E_OBJ));
     run.refused(DEFINE_TASK, 0, 1, 0, E_PAR);
     run.refused(DEFINE_TASK, 0, 1, 1, E_OBJ);
-    // Highest message priority counts with attribute 2 or 3 only.
-    run.ok(CRE_MBX, 0, 2, 99);
-    run.expect(Call { attribute: 3, ..call(CRE_MBX, 0, 3, 17) }, Answer::refused(E_PAR));
-    run.expect(Call { attribute: 4, ..call(CRE_MBX, 0, 3, 1) }, Answer::refused(E_PAR));
+}
+
+/// A handler may suspend while dispatching is disabled, and a task may suspend
+/// another one, but not itself.
+#[test]
+fn suspending_while_dispatching_is_disabled() {
+    let mut run = Run::start();
+    for (caller, task, code) in [
+        (1, 1, E_CTX),
+        (0, 0, E_ID),
+        (1, 2, E_OK),
+        (0, 2, E_QOVR),
+        (0, 3, E_OK),
+    ] {
+        let mut attempt = call(SUS_TSK, caller, task, 0);
+        attempt.disabled = true;
+        run.expect(attempt, Answer::refused(code));
+    }
+    run.ok(SUS_TSK, 1, 1, 0);
+    run.refused(RSM_TSK, 1, 1, 0, E_SYS);
+}
+
+/// Highest message priority counts with attribute 2 or 3 only.
+#[test]
+fn highest_message_priority() {
+    let mut run = Run::start();
+    for (attribute, highest, code) in [
+        (3, 17, E_PAR),
+        (2, 0, E_PAR),
+        (4, 1, E_PAR),
+        (1, 99, E_OK),
+        (1, 99, E_OBJ),
+    ] {
+        let mut attempt = call(CRE_MBX, 0, 3, highest);
+        attempt.attribute = attribute;
+        run.expect(attempt, Answer::refused(code));
+    }
 }
 
 #[test]
 fn time_out_limits() {
     let mut run = Run::start();
-    let timed = |tmout| Call { tmout, ..call(TRCV_MBX, 1, 1, 0) };
+    let timed = |tmout| Call {
+        tmout,
+        ..call(TRCV_MBX, 1, 1, 0)
+    };
     run.expect(timed(i32::MAX), Answer::refused(E_PAR));
     run.expect(timed(-2), Answer::refused(E_PAR));
     run.expect(timed(0), Answer::refused(E_TMOUT));
     run.expect(timed(2_147_483_646), Answer::Waits { place: 0 });
-    assert_eq!(run.state.task(1).wait, Wait::AtMailbox { mailbox: 1, end: Some(2_147_483_646) });
-    run.expect(Call { caller: 2, ..timed(-1) }, Answer::Waits { place: 1 });
-    assert_eq!(run.state.task(2).wait, Wait::AtMailbox { mailbox: 1, end: None });
+    assert_eq!(
+        run.state.task(1).wait,
+        Wait::AtMailbox {
+            mailbox: 1,
+            end: Some(2_147_483_646)
+        }
+    );
+    run.expect(
+        Call {
+            caller: 2,
+            ..timed(-1)
+        },
+        Answer::Waits { place: 1 },
+    );
+    assert_eq!(
+        run.state.task(2).wait,
+        Wait::AtMailbox {
+            mailbox: 1,
+            end: None
+        }
+    );
 }
 
 /// A time-out withdraws the word of the sender, and several end in one tick.
@@ -283,7 +391,10 @@ fn time_out_limits() {
 fn several_time_outs_in_one_tick() {
     let mut run = Run::from(u32::MAX);
     for (task, tmout) in [(3, 2), (1, 2), (2, 3)] {
-        let send = Call { tmout, ..call(TSND_DTQ, task, 2, task) };
+        let send = Call {
+            tmout,
+            ..call(TSND_DTQ, task, 2, task)
+        };
         let place = if task == 1 { 1 } else { 0 };
         run.expect(send, Answer::Waits { place });
     }
@@ -302,7 +413,13 @@ fn several_time_outs_in_one_tick() {
 #[test]
 fn mailbox_delete_and_waiters_by_priority() {
     let mut run = Run::start();
-    run.expect(Call { attribute: 1, ..call(CRE_MBX, 0, 2, 0) }, Answer::done(0, 0, 0));
+    run.expect(
+        Call {
+            attribute: 1,
+            ..call(CRE_MBX, 0, 2, 0)
+        },
+        Answer::done(0, 0, 0),
+    );
     run.waits(RCV_MBX, 1, 2, 0, 0);
     run.waits(RCV_MBX, 2, 2, 0, 0);
     run.waits(RCV_MBX, 3, 2, 0, 2);
@@ -333,14 +450,31 @@ fn sound_after(change: impl Fn(&mut State)) -> bool {
 }
 
 #[test]
-fn sentences_on_tasks() {
+fn sentences_on_lists_of_tasks() {
     assert!(sound_after(|_| {}));
     assert!(!sound_after(|state| state.tasks[1].wait = Wait::No));
     assert!(!sound_after(|state| state.queues[2].senders.clear()));
-    assert!(!sound_after(|state| state.queues[2].senders.push(1)));
-    assert!(!sound_after(|state| state.queues[2].senders.push(2)));
-    assert!(!sound_after(|state| state.queues[2].senders.push(0)));
-    assert!(!sound_after(|state| state.queues[2].senders.push(33)));
+    for number in [0, 1, 2, 33, u32::MAX] {
+        assert!(!sound_after(|state| state.queues[2].senders.push(number)));
+        assert!(!sound_after(|state| state.queues[1].receivers.push(number)));
+    }
+    // Task 3 has priority 5 as task 1, task 4 has 3.
+    assert!(sound_after(|state| also_sending(state, 3)));
+    assert!(!sound_after(|state| also_sending(state, 4)));
+}
+
+/// Puts the task behind task 1 as a sender of queue 2.
+fn also_sending(state: &mut State, task: u32) {
+    state.queues[2].senders.push(task);
+    state.tasks[task as usize].wait = Wait::Sending {
+        queue: 2,
+        word: 1,
+        end: None,
+    };
+}
+
+#[test]
+fn sentences_on_task_records() {
     assert!(!sound_after(|state| state.tasks[1].exists = false));
     assert!(!sound_after(|state| state.tasks[5].suspended = true));
     assert!(!sound_after(|state| state.tasks[1].priority = 0));
@@ -348,25 +482,31 @@ fn sentences_on_tasks() {
     assert!(sound_after(|state| state.tasks[5].priority = 17));
     assert!(!sound_after(|state| state.tasks[2].code = -17));
     assert!(sound_after(|state| state.tasks[5].code = -17));
-    for (away, sound) in [(0, false), (1, true), (LARGEST_TMOUT, true), (1 << 31, false)] {
-        let wait = Wait::Sending { queue: 2, word: 1, end: Some(away) };
-        assert_eq!(sound_after(|state| state.tasks[1].wait = wait.clone()), sound);
-    }
-    // Task 3 has priority 5 as task 1, task 4 has 3.
-    let sending = Wait::Sending { queue: 2, word: 1, end: None };
-    for (task, sound) in [(3, true), (4, false)] {
+}
+
+#[test]
+fn sentence_on_end_ticks() {
+    for (away, sound) in [
+        (0, false),
+        (1, true),
+        (2_147_483_646, true),
+        (2_147_483_647, false),
+        (u32::MAX, false),
+    ] {
+        let wait = Wait::Sending {
+            queue: 2,
+            word: 1,
+            end: Some(away),
+        };
         assert_eq!(
-            sound_after(|state| {
-                state.tasks[task as usize].wait = sending.clone();
-                state.queues[2].senders.push(task);
-            }),
+            sound_after(|state| state.tasks[1].wait = wait.clone()),
             sound
         );
     }
 }
 
 #[test]
-fn sentences_on_objects() {
+fn sentences_on_queues() {
     assert!(!sound_after(|state| state.queues[2].exists = false));
     assert!(!sound_after(|state| state.queues[2].capacity = 1));
     assert!(!sound_after(|state| state.queues[1].capacity = 17));
@@ -374,23 +514,35 @@ fn sentences_on_objects() {
     assert!(!sound_after(|state| state.queues[1].words = vec![1, 2, 3]));
     assert!(sound_after(|state| state.queues[1].words = vec![1, 2]));
     assert!(!sound_after(|state| state.queues[3].words = vec![1]));
+}
+
+#[test]
+fn sentences_on_mailboxes() {
     assert!(!sound_after(|state| state.mailboxes[1].highest = 3));
     assert!(!sound_after(|state| state.mailboxes[1].highest = 17));
     assert!(!sound_after(|state| state.mailboxes[1].attribute = 4));
     assert!(!sound_after(|state| state.mailboxes[1].exists = false));
-    let second = Message { number: 7, priority: 4 };
-    assert!(!sound_after(|state| state.mailboxes[1].messages.push(second.clone())));
-    let smaller = Message { number: 8, priority: 3 };
-    assert!(!sound_after(|state| state.mailboxes[1].messages.push(smaller.clone())));
-    let none = Message { number: 8, priority: 0 };
-    assert!(!sound_after(|state| state.mailboxes[1].messages.push(none.clone())));
-    let equal = Message { number: 64, priority: 4 };
-    assert!(sound_after(|state| state.mailboxes[1].messages.push(equal.clone())));
-    let above = Message { number: 65, priority: 4 };
-    assert!(!sound_after(|state| state.mailboxes[1].messages.push(above.clone())));
+    for (number, priority, sound) in [
+        (7, 4, false),
+        (8, 3, false),
+        (8, 0, false),
+        (8, 5, false),
+        (64, 4, true),
+        (65, 4, false),
+        (0, 4, false),
+    ] {
+        let message = Message { number, priority };
+        assert_eq!(
+            sound_after(|state| state.mailboxes[1].messages.push(message.clone())),
+            sound
+        );
+    }
     assert!(!sound_after(|state| {
-        state.tasks[2].wait = Wait::AtMailbox { mailbox: 1, end: None };
         state.mailboxes[1].waiters.push(2);
+        state.tasks[2].wait = Wait::AtMailbox {
+            mailbox: 1,
+            end: None,
+        };
     }));
 }
 
@@ -459,7 +611,10 @@ fn is_own(list: &[u32], limit: u32, number: u32) -> bool {
 /// Plays a list and gives the answers.
 fn answers(state: &mut State, calls: &[Call]) -> Vec<Answer> {
     let mut reached = Reached::new();
-    calls.iter().map(|call| state.play(call, &mut reached)).collect()
+    calls
+        .iter()
+        .map(|call| state.play(call, &mut reached))
+        .collect()
 }
 
 /// Calls that a guided sequence made, from an empty state.
@@ -494,7 +649,10 @@ fn merges_of_two_carriers() {
         let merged_answers = answers(&mut merged, &calls);
         let of = |list: bool| {
             let pairs = merge.iter().zip(&merged_answers);
-            pairs.filter(|((is, _), _)| *is == list).map(|(_, a)| *a).collect::<Vec<_>>()
+            pairs
+                .filter(|((is, _), _)| *is == list)
+                .map(|(_, a)| *a)
+                .collect::<Vec<_>>()
         };
         assert_eq!(of(true), first_answers);
         assert_eq!(of(false), second_answers);
