@@ -110,15 +110,8 @@ impl State {
         self.mailboxes[call.object as usize]
             .waiters
             .insert(place, call.caller);
-        self.begin_wait(
-            call,
-            Wait::AtMailbox {
-                mailbox: call.object,
-                end,
-            },
-            place,
-            reached,
-        )
+        let mailbox = call.object;
+        self.begin_wait(call, Wait::AtMailbox { mailbox, end }, place, reached)
     }
 
     /// a the head waiter, b the head message.

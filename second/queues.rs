@@ -121,15 +121,8 @@ impl State {
         self.queues[call.object as usize]
             .receivers
             .push(call.caller);
-        self.begin_wait(
-            call,
-            Wait::Receiving {
-                queue: call.object,
-                end,
-            },
-            place,
-            reached,
-        )
+        let queue = call.object;
+        self.begin_wait(call, Wait::Receiving { queue, end }, place, reached)
     }
 
     /// Takes the head sender off the list, ends its wait with E_OK and gives

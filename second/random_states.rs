@@ -103,17 +103,26 @@ fn place_messages(random: &mut Random, state: &mut State) {
 
 /// Lets some of the defined tasks wait where a task may wait.
 fn place_waiters(random: &mut Random, state: &mut State) {
-    let waiting = random.pick(&[0, 30, 70, 95]);
+    let waiting = random.pick(&[0, 30, 70, 95, 100]);
+    let mut objects: Vec<u32> = (1..=QUEUES)
+        .filter(|&number| state.queue(number).exists || state.mailbox(number).exists)
+        .collect();
+    shuffle(random, &mut objects);
     // Few objects make long lists.
-    let objects = random.pick(&[1, 3, QUEUES]);
-    let mut numbers: Vec<u32> = (1..=TASKS).collect();
-    shuffle(random, &mut numbers);
-    let first = random.below(QUEUES);
-    for task in numbers {
-        if state.task(task).exists && random.percent(waiting) {
-            let object = (first + random.below(objects)) % QUEUES + 1;
+    objects.truncate(random.pick(&[1, 3, 16]));
+    let mut tasks: Vec<u32> = (1..=TASKS).collect();
+    shuffle(random, &mut tasks);
+    for task in tasks {
+        if objects.is_empty() || !state.task(task).exists || !random.percent(waiting) {
+            continue;
+        }
+        // Some attempts, since not every object has a place for a waiter.
+        for _ in 0..4 {
+            let object = random.pick(&objects);
             let end = random_end(random, state.counter);
-            place_waiter(random, state, task, object, end);
+            if !state.task(task).waits() {
+                place_waiter(random, state, task, object, end);
+            }
         }
     }
     put_in_order(state);
