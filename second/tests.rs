@@ -659,3 +659,38 @@ fn merges_of_two_carriers() {
         assert!(alone.equal(&merged));
     }
 }
+
+/// A new wait sets the stored pair to 0 and 0; a call that does not wait, and
+/// a fetch, leave it.
+#[test]
+fn stored_pair() {
+    let mut run = Run::start();
+    run.waits(RCV_DTQ, 1, 1, 0, 0);
+    run.ok(SND_DTQ, 2, 1, 8);
+    run.fetch(1, E_OK, 8);
+    run.ok(SND_DTQ, 1, 1, 9);
+    run.fetch(1, E_OK, 8);
+    run.waits(SND_DTQ, 1, 2, 1, 0);
+    assert_eq!((run.state.task(1).code, run.state.task(1).word), (0, 0));
+    run.ok(REL_WAI, 2, 1, 0);
+    run.fetch(1, E_RLWAI, 0);
+    run.waits(SND_DTQ, 1, 2, 1, 0);
+    assert_eq!((run.state.task(1).code, run.state.task(1).word), (0, 0));
+}
+
+/// Without attribute 2 any priority is taken and none is kept.
+#[test]
+fn messages_by_arrival() {
+    let mut run = Run::start();
+    run.ok(CRE_MBX, 0, 2, 0);
+    for (message, priority, ahead) in [(3, 9, 0), (1, 0, 1), (2, u32::MAX, 2)] {
+        let mut send = call(SND_MBX, 1, 2, message);
+        send.attribute = priority;
+        run.expect(send, Answer::done(ahead, 0, 0));
+    }
+    let kept = |message: &Message| message.priority == 0;
+    assert!(run.state.mailbox(2).messages.iter().all(kept));
+    for message in [3, 1, 2] {
+        run.gives(PRCV_MBX, 0, 2, 0, [message, 0, 0]);
+    }
+}
