@@ -46,47 +46,31 @@ pub(crate) fn refusal(state: &State, call: &Call, reached: &mut Reached) -> Opti
 }
 
 fn first_row(state: &State, call: &Call) -> Option<(i32, Path)> {
-    if let Some(path) = step_0_call_number(call) {
-        return Some((E_PAR, path));
-    }
-    if let Some(path) = step_1_state(state, call) {
-        return Some((E_SYS, path));
-    }
+    let first =
+        row(E_PAR, step_0_call_number(call)).or_else(|| row(E_SYS, step_1_state(state, call)));
     // The tick has the test of the state only.
-    if call.number == TICK {
-        return None;
+    if first.is_some() || call.number == TICK {
+        return first;
     }
-    if let Some(path) = step_1_caller(state, call) {
-        return Some((E_SYS, path));
-    }
-    if let Some(path) = step_2_context(call) {
-        return Some((E_CTX, path));
-    }
-    if let Some(path) = step_3_number(call) {
-        return Some((E_ID, path));
-    }
-    if let Some(path) = step_4_parameters(call) {
-        return Some((E_PAR, path));
-    }
-    if let Some(path) = step_5_existence(state, call) {
-        return Some((E_NOEXS, path));
-    }
-    if let Some(path) = step_6a_message_priority(state, call) {
-        return Some((E_PAR, path));
-    }
-    if let Some(path) = step_6b_object_state(state, call) {
-        return Some((E_OBJ, path));
-    }
-    if let Some(path) = step_6c_suspended_already(state, call) {
-        return Some((E_QOVR, path));
-    }
-    if let Some(path) = step_6d_forced_send(state, call) {
-        return Some((E_ILUSE, path));
-    }
-    if let Some(path) = step_7_would_wait(state, call) {
-        return Some((E_TMOUT, path));
-    }
-    None
+    rows_for_calls(state, call)
+}
+
+fn rows_for_calls(state: &State, call: &Call) -> Option<(i32, Path)> {
+    row(E_SYS, step_1_caller(state, call))
+        .or_else(|| row(E_CTX, step_2_context(call)))
+        .or_else(|| row(E_ID, step_3_number(call)))
+        .or_else(|| row(E_PAR, step_4_parameters(call)))
+        .or_else(|| row(E_NOEXS, step_5_existence(state, call)))
+        .or_else(|| row(E_PAR, step_6a_message_priority(state, call)))
+        .or_else(|| row(E_OBJ, step_6b_object_state(state, call)))
+        .or_else(|| row(E_QOVR, step_6c_suspended_already(state, call)))
+        .or_else(|| row(E_ILUSE, step_6d_forced_send(state, call)))
+        .or_else(|| row(E_TMOUT, step_7_would_wait(state, call)))
+}
+
+/// The code of a row together with the condition that held, if one did.
+fn row(code: i32, path: Option<Path>) -> Option<(i32, Path)> {
+    path.map(|path| (code, path))
 }
 
 /// What kind of thing the call's object number counts.
@@ -273,17 +257,29 @@ fn step_6d_forced_send(state: &State, call: &Call) -> Option<Path> {
         return None;
     }
     let queue = state.queue(call.object);
-    when(queue.capacity == 0 && queue.receivers.is_empty(), Path::ForcedSendWithoutRoom)
+    when(
+        queue.capacity == 0 && queue.receivers.is_empty(),
+        Path::ForcedSendWithoutRoom,
+    )
 }
 
 fn step_7_would_wait(state: &State, call: &Call) -> Option<Path> {
     let (path, would_wait) = match call.number {
         PSND_DTQ => (Path::PollPsndDtq, state.send_would_wait(call.object)),
-        TSND_DTQ => (Path::PollTsndDtq, call.tmout == 0 && state.send_would_wait(call.object)),
+        TSND_DTQ => (
+            Path::PollTsndDtq,
+            call.tmout == 0 && state.send_would_wait(call.object),
+        ),
         PRCV_DTQ => (Path::PollPrcvDtq, state.receive_would_wait(call.object)),
-        TRCV_DTQ => (Path::PollTrcvDtq, call.tmout == 0 && state.receive_would_wait(call.object)),
+        TRCV_DTQ => (
+            Path::PollTrcvDtq,
+            call.tmout == 0 && state.receive_would_wait(call.object),
+        ),
         PRCV_MBX => (Path::PollPrcvMbx, state.mailbox_would_wait(call.object)),
-        TRCV_MBX => (Path::PollTrcvMbx, call.tmout == 0 && state.mailbox_would_wait(call.object)),
+        TRCV_MBX => (
+            Path::PollTrcvMbx,
+            call.tmout == 0 && state.mailbox_would_wait(call.object),
+        ),
         _ => return None,
     };
     when(would_wait, path)

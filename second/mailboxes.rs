@@ -13,10 +13,12 @@ impl State {
 
     /// The message stands in some mailbox.
     pub fn message_queued(&self, number: u32) -> bool {
-        self.mailboxes
-            .iter()
-            .skip(1)
-            .any(|mailbox| mailbox.messages.iter().any(|message| message.number == number))
+        self.mailboxes.iter().skip(1).any(|mailbox| {
+            mailbox
+                .messages
+                .iter()
+                .any(|message| message.number == number)
+        })
     }
 
     pub(crate) fn cre_mbx(&mut self, call: &Call) -> Answer {
@@ -65,11 +67,20 @@ impl State {
             let place = place.unwrap_or(list.len());
             let equal_ahead = place > 0 && list[place - 1].priority == priority;
             reached.note_if(equal_ahead && place < list.len(), Path::MessageBehindEquals);
-            mailbox.messages.insert(place, Message { number: call.value, priority });
+            mailbox.messages.insert(
+                place,
+                Message {
+                    number: call.value,
+                    priority,
+                },
+            );
             place
         } else {
             // By arrival; the priority is not kept.
-            mailbox.messages.push(Message { number: call.value, priority: 0 });
+            mailbox.messages.push(Message {
+                number: call.value,
+                priority: 0,
+            });
             mailbox.messages.len() - 1
         };
         reached.note_if(place == 0, Path::MessageAtPlaceZero);
@@ -88,16 +99,19 @@ impl State {
         }
         let end = self.end_tick(call, call.number == TRCV_MBX);
         let mailbox = self.mailbox(call.object);
-        let place = match mailbox.waiters_by_priority() {
+        let ordered = mailbox.waiters_by_priority();
+        let place = match ordered {
             true => self.place_by_priority(&mailbox.waiters, call.caller),
             false => mailbox.waiters.len(),
         };
-        let ordered = mailbox.waiters_by_priority();
         if ordered && self.between_equal_and_larger(&mailbox.waiters, call.caller) {
             reached.note(Path::MailboxWaiterBehindEquals);
         }
-        self.mailboxes[call.object as usize].waiters.insert(place, call.caller);
-        self.begin_wait(call, Wait::AtMailbox { mailbox: call.object, end }, place, reached)
+        self.mailboxes[call.object as usize]
+            .waiters
+            .insert(place, call.caller);
+        let mailbox = call.object;
+        self.begin_wait(call, Wait::AtMailbox { mailbox, end }, place, reached)
     }
 
     /// a the head waiter, b the head message.

@@ -14,7 +14,10 @@ const LENGTH: u64 = 400;
 const SHORT_LENGTH: u64 = 5;
 
 fn main() {
-    let arguments: Vec<u64> = std::env::args().skip(1).filter_map(|text| text.parse().ok()).collect();
+    let arguments = std::env::args()
+        .skip(1)
+        .filter_map(|text| text.parse().ok());
+    let arguments: Vec<u64> = arguments.collect();
     let [count, seed] = arguments[..] else {
         eprintln!("usage: second COUNT SEED");
         exit(2);
@@ -34,7 +37,10 @@ fn main() {
     }
     let seconds = begun.elapsed().as_secs_f64();
     print!("{reached}");
-    println!("{played} calls in {seconds:.2} s, {:.0} a second", played as f64 / seconds);
+    println!(
+        "{played} calls in {seconds:.2} s, {:.0} a second",
+        played as f64 / seconds
+    );
     let missing = reached.missing();
     for name in &missing {
         println!("not reached: {name}");
@@ -44,39 +50,71 @@ fn main() {
     }
 }
 
+/// One step, kept to be printed when a check fails.
+struct Step<'a> {
+    before: &'a State,
+    call: Call,
+    answer: Answer,
+}
+
+impl Step<'_> {
+    /// Stops the program if the check fails.
+    fn check(&self, holds: bool, what: &str) {
+        if holds {
+            return;
+        }
+        println!("check failed: {what}");
+        println!("state before:\n{}", self.before);
+        println!("call: {}", self.call);
+        println!("answer: {}", self.answer);
+        exit(1);
+    }
+
+    /// The answer has a code that refuses. A fetch that is not refused may
+    /// give the code of an ended wait, which no row gives for a fetch.
+    fn refused(&self) -> bool {
+        match self.answer {
+            Answer::Waits { .. } => false,
+            Answer::Finished { code, .. } if self.call.number == FETCH => {
+                !matches!(code, E_OK | E_RLWAI | E_TMOUT | E_DLT)
+            }
+            Answer::Finished { code, .. } => code != E_OK,
+        }
+    }
+}
+
 /// Plays one sequence from a sound state; gives the number of steps.
 fn play_sequence(random: &mut Random, kind: Kind, length: u64, reached: &mut Reached) -> u64 {
     let profile = Profile::new(kind, random);
     let mut state = profile.start(random);
     let mut before = state.clone();
-    check(state.sound(), "the state at the start is sound", &before, None, None);
     reached.start_sequence();
     for _ in 0..length {
         let call = random_call(random, &profile, &state);
         let answer = state.play(&call, reached);
-        check(state.sound(), "the state is sound", &before, Some(&call), Some(&answer));
-        if refused(&call, &answer) {
-            let zero = matches!(answer, Answer::Finished { a: 0, b: 0, c: 0, .. });
-            check(zero, "a refusal gives zero words", &before, Some(&call), Some(&answer));
-            let same = state.equal(&before);
-            check(same, "a refusal leaves the state equal", &before, Some(&call), Some(&answer));
+        let step = Step {
+            before: &before,
+            call,
+            answer,
+        };
+        step.check(state.sound(), "the state is sound");
+        if step.refused() {
+            let zero = matches!(
+                answer,
+                Answer::Finished {
+                    a: 0,
+                    b: 0,
+                    c: 0,
+                    ..
+                }
+            );
+            step.check(zero, "a refusal gives zero words");
+            step.check(state.equal(&before), "a refusal leaves the state equal");
         } else {
             before = state.clone();
         }
     }
     length
-}
-
-/// The answer has a code that refuses. A fetch that is not refused may give
-/// E_TMOUT or another code of an ended wait; those no row gives for a fetch.
-fn refused(call: &Call, answer: &Answer) -> bool {
-    match answer {
-        Answer::Waits { .. } => false,
-        Answer::Finished { code, .. } if call.number == FETCH => {
-            !matches!(*code, E_OK | E_RLWAI | E_TMOUT | E_DLT)
-        }
-        Answer::Finished { code, .. } => *code != E_OK,
-    }
 }
 
 /// Plays a few steps on a state that is not sound; gives their number.
@@ -90,27 +128,17 @@ fn play_unsound(random: &mut Random, length: u64, reached: &mut Reached) -> u64 
         // The call is made for another, sound state: any call will do here.
         let call = random_call(random, &profile, &sound);
         let answer = state.play(&call, reached);
+        let step = Step {
+            before: &before,
+            call,
+            answer,
+        };
         let code = if call.number > FETCH { E_PAR } else { E_SYS };
-        let right = answer == Answer::refused(code);
-        check(right, "the unsound state is refused", &before, Some(&call), Some(&answer));
-        let same = state == before;
-        check(same, "the unsound state stays", &before, Some(&call), Some(&answer));
+        step.check(
+            answer == Answer::refused(code),
+            "an unsound state is refused",
+        );
+        step.check(state == before, "a refused unsound state stays");
     }
     length
-}
-
-/// Stops the program with the state before the step if a check fails.
-fn check(holds: bool, what: &str, before: &State, call: Option<&Call>, answer: Option<&Answer>) {
-    if holds {
-        return;
-    }
-    println!("check failed: {what}");
-    println!("state before:\n{before}");
-    if let Some(call) = call {
-        println!("call: {call}");
-    }
-    if let Some(answer) = answer {
-        println!("answer: {answer}");
-    }
-    exit(1);
 }

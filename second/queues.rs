@@ -72,15 +72,22 @@ impl State {
     fn wait_to_send(&mut self, call: &Call, reached: &mut Reached) -> Answer {
         let end = self.end_tick(call, call.number == TSND_DTQ);
         let queue = self.queue(call.object);
-        let place = match queue.senders_by_priority() {
+        let ordered = queue.senders_by_priority();
+        let place = match ordered {
             true => self.place_by_priority(&queue.senders, call.caller),
             false => queue.senders.len(),
         };
-        if queue.senders_by_priority() && self.between_equal_and_larger(&queue.senders, call.caller) {
+        if ordered && self.between_equal_and_larger(&queue.senders, call.caller) {
             reached.note(Path::SenderBehindEquals);
         }
-        self.queues[call.object as usize].senders.insert(place, call.caller);
-        let wait = Wait::Sending { queue: call.object, word: call.value, end };
+        self.queues[call.object as usize]
+            .senders
+            .insert(place, call.caller);
+        let wait = Wait::Sending {
+            queue: call.object,
+            word: call.value,
+            end,
+        };
         self.begin_wait(call, wait, place, reached)
     }
 
@@ -111,8 +118,11 @@ impl State {
         // Receivers always wait in order of arrival.
         let end = self.end_tick(call, call.number == TRCV_DTQ);
         let place = queue.receivers.len();
-        self.queues[call.object as usize].receivers.push(call.caller);
-        self.begin_wait(call, Wait::Receiving { queue: call.object, end }, place, reached)
+        self.queues[call.object as usize]
+            .receivers
+            .push(call.caller);
+        let queue = call.object;
+        self.begin_wait(call, Wait::Receiving { queue, end }, place, reached)
     }
 
     /// Takes the head sender off the list, ends its wait with E_OK and gives

@@ -135,7 +135,27 @@ impl Own {
 }
 
 fn others(list: &[u32], limit: u32) -> Vec<u32> {
-    (1..=limit).filter(|number| !list.contains(number)).collect()
+    (1..=limit)
+        .filter(|number| !list.contains(number))
+        .collect()
+}
+
+/// A random merge of two lists of calls: every call of both, each list in its
+/// order. With each call stands whether it is of the first list.
+pub fn random_merge(random: &mut Random, one: &[Call], two: &[Call]) -> Vec<(bool, Call)> {
+    let (mut first, mut second) = (one.iter(), two.iter());
+    let mut merge = Vec::new();
+    while merge.len() < one.len() + two.len() {
+        let left = first.len() as u32;
+        let is_first = random.below(left + second.len() as u32) < left;
+        let next = if is_first {
+            first.next()
+        } else {
+            second.next()
+        };
+        merge.extend(next.map(|call| (is_first, *call)));
+    }
+    merge
 }
 
 /// What a sequence of random calls is after.
@@ -191,7 +211,10 @@ impl Profile {
     pub fn new(kind: Kind, random: &mut Random) -> Profile {
         let mut own = match kind {
             Kind::Mixed => Own::all(),
-            Kind::Flood => Own { messages: (1..=MESSAGES).collect(), ..Own::few(random) },
+            Kind::Flood => Own {
+                messages: (1..=MESSAGES).collect(),
+                ..Own::few(random)
+            },
             _ => Own::few(random),
         };
         match kind {
@@ -203,12 +226,20 @@ impl Profile {
             Kind::Flood => own.mailboxes.truncate(1),
             _ => {}
         }
-        Profile { kind, own, ticks: true }
+        Profile {
+            kind,
+            own,
+            ticks: true,
+        }
     }
 
     /// Calls that name only these tasks, objects and messages; no ticks.
     pub fn restricted(kind: Kind, own: Own) -> Profile {
-        Profile { kind, own, ticks: false }
+        Profile {
+            kind,
+            own,
+            ticks: false,
+        }
     }
 
     /// A state for the sequence to start from, sound, empty or not.
@@ -231,7 +262,7 @@ pub fn random_call(random: &mut Random, profile: &Profile, state: &State) -> Cal
         number,
         caller: 0,
         locked: false,
-        disabled: false,
+        disabled: random.percent(3),
         object: random.number(),
         value: random.number(),
         tmout: random_tmout(random, profile.kind),
@@ -262,36 +293,37 @@ fn mistakes(kind: Kind) -> u32 {
 fn weights(kind: Kind) -> &'static [u32; 24] {
     //  tick, 1, 2..11 data queues, 12..18 mailboxes, 19..23 tasks
     match kind {
-        Kind::Mixed | Kind::Few | Kind::Errors => {
-            &[8, 4, 4, 3, 8, 6, 8, 6, 8, 6, 8, 4, 4, 3, 12, 8, 6, 8, 4, 4, 5, 5, 4, 4]
-        }
-        Kind::CrowdOfSenders => {
-            &[2, 2, 2, 1, 90, 4, 90, 3, 1, 2, 1, 1, 0, 0, 0, 0, 0, 0, 0, 2, 2, 5, 1, 1]
-        }
-        Kind::CrowdOfReceivers => {
-            &[2, 2, 2, 1, 1, 1, 1, 1, 90, 4, 90, 1, 0, 0, 0, 0, 0, 0, 0, 2, 2, 5, 1, 1]
-        }
-        Kind::CrowdAtMailbox => {
-            &[2, 2, 0, 0, 0, 0, 0, 0, 0, 0, 0, 0, 2, 1, 3, 90, 4, 90, 1, 2, 2, 5, 1, 1]
-        }
-        Kind::Flood => {
-            &[1, 1, 0, 0, 0, 0, 0, 0, 0, 0, 0, 0, 2, 1, 200, 2, 3, 2, 2, 1, 1, 2, 1, 1]
-        }
-        Kind::TimeOuts | Kind::NearWrap => {
-            &[40, 3, 2, 1, 2, 3, 20, 1, 1, 2, 20, 1, 2, 1, 4, 1, 1, 20, 1, 1, 4, 3, 2, 4]
-        }
-        Kind::CapacityZero => {
-            &[4, 4, 4, 2, 9, 6, 9, 9, 9, 6, 9, 4, 0, 0, 0, 0, 0, 0, 0, 3, 3, 4, 2, 4]
-        }
-        Kind::LargeQueues => {
-            &[2, 3, 3, 1, 15, 15, 15, 8, 10, 10, 10, 3, 0, 0, 0, 0, 0, 0, 0, 4, 2, 3, 1, 1]
-        }
+        Kind::Mixed | Kind::Few | Kind::Errors => &[
+            8, 4, 4, 3, 8, 6, 8, 6, 8, 6, 8, 4, 4, 3, 12, 8, 6, 8, 4, 4, 5, 5, 4, 4,
+        ],
+        Kind::CrowdOfSenders => &[
+            2, 2, 2, 1, 90, 4, 90, 3, 1, 2, 1, 1, 0, 0, 0, 0, 0, 0, 0, 2, 2, 5, 1, 1,
+        ],
+        Kind::CrowdOfReceivers => &[
+            2, 2, 2, 1, 1, 1, 1, 1, 90, 4, 90, 1, 0, 0, 0, 0, 0, 0, 0, 2, 2, 5, 1, 1,
+        ],
+        Kind::CrowdAtMailbox => &[
+            2, 2, 0, 0, 0, 0, 0, 0, 0, 0, 0, 0, 2, 1, 3, 90, 4, 90, 1, 2, 2, 5, 1, 1,
+        ],
+        Kind::Flood => &[
+            1, 1, 0, 0, 0, 0, 0, 0, 0, 0, 0, 0, 2, 1, 200, 2, 3, 2, 2, 1, 1, 2, 1, 1,
+        ],
+        Kind::TimeOuts | Kind::NearWrap => &[
+            40, 3, 2, 1, 2, 3, 20, 1, 1, 2, 20, 1, 2, 1, 4, 1, 1, 20, 1, 1, 4, 3, 2, 4,
+        ],
+        Kind::CapacityZero => &[
+            4, 4, 4, 2, 9, 6, 9, 9, 9, 6, 9, 4, 0, 0, 0, 0, 0, 0, 0, 3, 3, 4, 2, 4,
+        ],
+        Kind::LargeQueues => &[
+            2, 3, 3, 1, 15, 15, 15, 8, 10, 10, 10, 3, 0, 0, 0, 0, 0, 0, 0, 4, 2, 3, 1, 1,
+        ],
     }
 }
 
-/// Calls that help when no task is able to call.
-const RELIEF: [u32; 8] =
-    [REL_WAI, PSND_DTQ, PRCV_DTQ, FSND_DTQ, SND_MBX, PRCV_MBX, RSM_TSK, RSM_TSK];
+/// Calls that help when no task is able to call, and a handler may make.
+const RELIEF: [u32; 8] = [
+    REL_WAI, REL_WAI, PSND_DTQ, PRCV_DTQ, FSND_DTQ, SND_MBX, PRCV_MBX, LOOK,
+];
 
 fn random_number(random: &mut Random, profile: &Profile, state: &State) -> u32 {
     if let Some(number) = number_to_define(random, profile, state) {
@@ -304,9 +336,21 @@ fn random_number(random: &mut Random, profile: &Profile, state: &State) -> u32 {
         left -= weights[number as usize];
         number += 1;
     }
-    let able = profile.own.tasks.iter().any(|&task| state.task(task).able());
+    let able = profile
+        .own
+        .tasks
+        .iter()
+        .any(|&task| state.task(task).able());
     if needs_task(number) && !able && random.percent(95) {
+        let suspended = profile
+            .own
+            .tasks
+            .iter()
+            .any(|&task| state.task(task).suspended);
         number = random.pick(&RELIEF);
+        if suspended && random.percent(40) {
+            number = RSM_TSK;
+        }
     }
     if number == TICK && !profile.ticks {
         number = LOOK;
@@ -325,7 +369,11 @@ fn needs_task(number: u32) -> bool {
 /// Defines what is missing for the other calls to do something.
 fn number_to_define(random: &mut Random, profile: &Profile, state: &State) -> Option<u32> {
     let own = &profile.own;
-    let tasks = own.tasks.iter().filter(|&&task| state.task(task).exists).count();
+    let tasks = own
+        .tasks
+        .iter()
+        .filter(|&&task| state.task(task).exists)
+        .count();
     if tasks < own.tasks.len() && random.percent(40) {
         return Some(DEFINE_TASK);
     }
@@ -333,7 +381,10 @@ fn number_to_define(random: &mut Random, profile: &Profile, state: &State) -> Op
     if !queue && !own.queues.is_empty() && random.percent(20) {
         return Some(CRE_DTQ);
     }
-    let mailbox = own.mailboxes.iter().any(|&mailbox| state.mailbox(mailbox).exists);
+    let mailbox = own
+        .mailboxes
+        .iter()
+        .any(|&mailbox| state.mailbox(mailbox).exists);
     if !mailbox && !own.mailboxes.is_empty() && random.percent(20) {
         return Some(CRE_MBX);
     }
@@ -365,7 +416,9 @@ fn search(random: &mut Random, list: &[u32], fits: impl Fn(u32) -> bool) -> u32 
         return invalid(random);
     }
     let start = random.below(list.len() as u32) as usize;
-    let found = (0..list.len()).map(|step| list[(start + step) % list.len()]).find(|&n| fits(n));
+    let found = (0..list.len())
+        .map(|step| list[(start + step) % list.len()])
+        .find(|&n| fits(n));
     found.unwrap_or(list[start])
 }
 
@@ -391,14 +444,19 @@ fn choose_caller(random: &mut Random, profile: &Profile, state: &State, call: &m
 /// something where possible. Other calls keep the number that they have.
 fn choose_object(random: &mut Random, profile: &Profile, state: &State, call: &mut Call) {
     let own = &profile.own;
+    if random.percent(4) {
+        return spoil_object(random, own, call);
+    }
     call.object = match call.number {
         DEFINE_TASK => search(random, &own.tasks, |task| !state.task(task).exists),
         CRE_DTQ => search(random, &own.queues, |queue| !state.queue(queue).exists),
         DEL_DTQ..=REF_DTQ => search(random, &own.queues, |queue| state.queue(queue).exists),
-        CRE_MBX => search(random, &own.mailboxes, |mailbox| !state.mailbox(mailbox).exists),
-        DEL_MBX..=REF_MBX => {
-            search(random, &own.mailboxes, |mailbox| state.mailbox(mailbox).exists)
-        }
+        CRE_MBX => search(random, &own.mailboxes, |mailbox| {
+            !state.mailbox(mailbox).exists
+        }),
+        DEL_MBX..=REF_MBX => search(random, &own.mailboxes, |mailbox| {
+            state.mailbox(mailbox).exists
+        }),
         REL_WAI => search(random, &own.tasks, |task| state.task(task).waits()),
         SUS_TSK if random.percent(10) => call.caller,
         SUS_TSK => search(random, &own.tasks, |task| {
@@ -448,10 +506,15 @@ fn choose_message(random: &mut Random, profile: &Profile, state: &State, call: &
             }
         }
     }
-    call.value = search(random, &profile.own.messages, |message| !queued[message as usize]);
+    call.value = search(random, &profile.own.messages, |message| {
+        !queued[message as usize]
+    });
     let known = call.object >= 1 && call.object <= MAILBOXES;
     if known && state.mailbox(call.object).messages_by_priority() {
-        let highest = state.mailbox(call.object).highest.clamp(1, LARGEST_PRIORITY);
+        let highest = state
+            .mailbox(call.object)
+            .highest
+            .clamp(1, LARGEST_PRIORITY);
         call.attribute = random.between(1, highest);
     }
 }
@@ -471,16 +534,22 @@ fn spoil(random: &mut Random, profile: &Profile, call: &mut Call) {
         4 => call.caller = random.pick(&[33, 34, 100, 65_536, u32::MAX]),
         5 => call.object = invalid(random),
         6 => spoil_object(random, own, call),
-        7 => call.tmout = random.pick(&[0, 0, -2, -3, i32::MIN, i32::MAX]),
-        8 => call.attribute = random.pick(&[0, 2, 3, 4, 17, u32::MAX]),
+        7 if matches!(call.number, TSND_DTQ | TRCV_DTQ | TRCV_MBX) => {
+            call.tmout = random.pick(&[0, 0, -2, -3, i32::MIN, i32::MAX])
+        }
+        7 | 8 => call.attribute = random.pick(&[0, 0, 2, 4, 17, u32::MAX]),
         9 if call.number == SND_MBX => call.value = search(random, &own.messages, |_| true),
+        9 if call.number == CRE_MBX => {
+            call.attribute = random.between(2, 3);
+            call.value = random.pick(&[0, 17, u32::MAX]);
+        }
         9 | 10 => call.value = invalid(random),
         _ => call.number = random.pick(&[24, 25, 100, 256, 65_536, u32::MAX]),
     }
 }
 
-/// Any own number of the right kind, fitting or not, or one above the limit.
-/// A number that is invalid for this kind may be above its limit only.
+/// Any own number of the right kind, fitting or not, or the one next above
+/// the limit of that kind.
 fn spoil_object(random: &mut Random, own: &Own, call: &mut Call) {
     let (list, limit) = match call.number {
         CRE_DTQ..=REF_DTQ => (&own.queues, QUEUES),

@@ -42,7 +42,9 @@ fn define_task(random: &mut Random, task: &mut Task) {
     task.priority = random.priority();
     task.suspended = random.percent(20);
     task.code = random.pick(&[0, 0, -49, -50, -51]);
-    if task.code == 0 {
+    // A wait that ended otherwise than with E_OK leaves the word 0, but the
+    // section on sound records does not ask this.
+    if task.code == 0 || random.percent(5) {
         task.word = random.number();
     }
 }
@@ -101,17 +103,26 @@ fn place_messages(random: &mut Random, state: &mut State) {
 
 /// Lets some of the defined tasks wait where a task may wait.
 fn place_waiters(random: &mut Random, state: &mut State) {
-    let waiting = random.pick(&[0, 30, 70, 95]);
+    let waiting = random.pick(&[0, 30, 70, 95, 100]);
+    let mut objects: Vec<u32> = (1..=QUEUES)
+        .filter(|&number| state.queue(number).exists || state.mailbox(number).exists)
+        .collect();
+    shuffle(random, &mut objects);
     // Few objects make long lists.
-    let objects = random.pick(&[1, 3, QUEUES]);
-    let mut numbers: Vec<u32> = (1..=TASKS).collect();
-    shuffle(random, &mut numbers);
-    let first = random.below(QUEUES);
-    for task in numbers {
-        if state.task(task).exists && random.percent(waiting) {
-            let object = (first + random.below(objects)) % QUEUES + 1;
+    objects.truncate(random.pick(&[1, 3, 16]));
+    let mut tasks: Vec<u32> = (1..=TASKS).collect();
+    shuffle(random, &mut tasks);
+    for task in tasks {
+        if objects.is_empty() || !state.task(task).exists || !random.percent(waiting) {
+            continue;
+        }
+        // Some attempts, since not every object has a place for a waiter.
+        for _ in 0..4 {
+            let object = random.pick(&objects);
             let end = random_end(random, state.counter);
-            place_waiter(random, state, task, object, end);
+            if !state.task(task).waits() {
+                place_waiter(random, state, task, object, end);
+            }
         }
     }
     put_in_order(state);
@@ -125,19 +136,29 @@ fn place_waiter(random: &mut Random, state: &mut State, task: u32, object: u32, 
     let choice = random.below(3);
     if choice == 0 && queue.exists && queue.full() && queue.receivers.is_empty() {
         queue.senders.push(task);
-        entry.wait = Wait::Sending { queue: object, word: random.number(), end };
+        entry.wait = Wait::Sending {
+            queue: object,
+            word: random.number(),
+            end,
+        };
     } else if choice == 1 && queue.exists && queue.words.is_empty() && queue.senders.is_empty() {
         queue.receivers.push(task);
         entry.wait = Wait::Receiving { queue: object, end };
     } else if mailbox.exists && mailbox.messages.is_empty() {
         mailbox.waiters.push(task);
-        entry.wait = Wait::AtMailbox { mailbox: object, end };
+        entry.wait = Wait::AtMailbox {
+            mailbox: object,
+            end,
+        };
     } else {
         return;
     }
-    // A wait sets the stored pair to 0 and 0.
-    entry.code = 0;
-    entry.word = 0;
+    // A wait sets the stored pair to 0 and 0, but the section on sound records
+    // does not ask this of a waiting task.
+    if random.percent(90) {
+        entry.code = 0;
+        entry.word = 0;
+    }
 }
 
 /// No end, or an end tick that is not too far away.
@@ -156,12 +177,16 @@ fn put_in_order(state: &mut State) {
     let tasks = &state.tasks;
     for queue in &mut state.queues {
         if queue.senders_by_priority() {
-            queue.senders.sort_by_key(|&task| tasks[task as usize].priority);
+            queue
+                .senders
+                .sort_by_key(|&task| tasks[task as usize].priority);
         }
     }
     for mailbox in &mut state.mailboxes {
         if mailbox.waiters_by_priority() {
-            mailbox.waiters.sort_by_key(|&task| tasks[task as usize].priority);
+            mailbox
+                .waiters
+                .sort_by_key(|&task| tasks[task as usize].priority);
         }
     }
 }
@@ -177,13 +202,13 @@ fn shuffle(random: &mut Random, list: &mut [u32]) {
 pub fn random_unsound_state(random: &mut Random) -> State {
     let mut state = random_sound_state(random);
     while state.sound() {
-        change(random, &mut state);
+        change_state(random, &mut state);
     }
     state
 }
 
 /// Changes one thing in the state, which may be sound afterwards or not.
-pub fn change(random: &mut Random, state: &mut State) {
+pub fn change_state(random: &mut Random, state: &mut State) {
     match random.below(8) {
         0 => state.counter = random.number(),
         1 => state.counter = state.counter.wrapping_add(random.between(1, 40)),
@@ -221,9 +246,16 @@ fn random_wait(random: &mut Random, counter: u32) -> Wait {
     };
     match random.below(4) {
         0 => Wait::No,
-        1 => Wait::Sending { queue: object, word: random.number(), end },
+        1 => Wait::Sending {
+            queue: object,
+            word: random.number(),
+            end,
+        },
         2 => Wait::Receiving { queue: object, end },
-        _ => Wait::AtMailbox { mailbox: object, end },
+        _ => Wait::AtMailbox {
+            mailbox: object,
+            end,
+        },
     }
 }
 
@@ -260,7 +292,10 @@ fn change_mailbox(random: &mut Random, state: &mut State) {
         }
         _ => {
             let number = random.number();
-            mailbox.messages.push(Message { number, priority: random.priority() });
+            mailbox.messages.push(Message {
+                number,
+                priority: random.priority(),
+            });
         }
     }
 }

@@ -101,6 +101,11 @@ paths! {
     AcceptedRsmTsk: "accepted: rsm_tsk",
     AcceptedLook: "accepted: look",
     AcceptedFetch: "accepted: fetch",
+    AcceptedOfHandler: "accepted from caller 0",
+    AcceptedOfTask: "accepted from a task",
+    AcceptedOfHandlerDisabled: "accepted from caller 0 while dispatching is disabled",
+    AcceptedOfTaskDisabled: "accepted from a task while dispatching is disabled",
+    DisabledSusTskOfOther: "accepted sus_tsk of another task while dispatching is disabled",
     ReceiverServedBySnd: "receiver served by snd_dtq",
     ReceiverServedByPsnd: "receiver served by psnd_dtq",
     ReceiverServedByTsnd: "receiver served by tsnd_dtq",
@@ -236,7 +241,10 @@ impl Reached {
 
     /// Forgets the run so far; the counts stay.
     pub fn start_sequence(&mut self) {
-        *self = Reached { counts: self.counts, ..Reached::new() };
+        *self = Reached {
+            counts: self.counts,
+            ..Reached::new()
+        };
     }
 
     /// Adds the counts of another run.
@@ -267,8 +275,20 @@ impl Reached {
         }
     }
 
-    pub(crate) fn accepted(&mut self, number: u32) {
-        self.note(ACCEPTED[number as usize]);
+    pub(crate) fn accepted(&mut self, call: &Call) {
+        self.note(ACCEPTED[call.number as usize]);
+        // The tick has no context.
+        if call.number == TICK {
+            return;
+        }
+        self.note(match (call.caller, call.disabled) {
+            (0, false) => Path::AcceptedOfHandler,
+            (0, true) => Path::AcceptedOfHandlerDisabled,
+            (_, false) => Path::AcceptedOfTask,
+            (_, true) => Path::AcceptedOfTaskDisabled,
+        });
+        let other = call.number == SUS_TSK && call.caller != 0 && call.disabled;
+        self.note_if(other, Path::DisabledSusTskOfOther);
     }
 
     pub(crate) fn receiver_served(&mut self, call: &Call, capacity: u32) {
@@ -320,7 +340,10 @@ impl Reached {
 
     pub(crate) fn wait_begun(&mut self, call: &Call, wait: &Wait, place: usize, counter: u32) {
         self.begun[call.caller as usize] = Some(counter);
-        self.note_if(wait.end().is_some() && call.tmout == 2_147_483_646, Path::LargestTmout);
+        self.note_if(
+            wait.end().is_some() && call.tmout == 2_147_483_646,
+            Path::LargestTmout,
+        );
         let (ever, finite) = match call.number {
             TSND_DTQ => (Path::ForEverTsndDtq, Path::FiniteTsndDtq),
             TRCV_DTQ => (Path::ForEverTrcvDtq, Path::FiniteTrcvDtq),

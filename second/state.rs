@@ -42,9 +42,30 @@ pub const FETCH: u32 = 23;
 
 /// The names of the calls, by number.
 pub const CALL_NAMES: [&str; 24] = [
-    "tick", "define task", "cre_dtq", "del_dtq", "snd_dtq", "psnd_dtq", "tsnd_dtq", "fsnd_dtq",
-    "rcv_dtq", "prcv_dtq", "trcv_dtq", "ref_dtq", "cre_mbx", "del_mbx", "snd_mbx", "rcv_mbx",
-    "prcv_mbx", "trcv_mbx", "ref_mbx", "rel_wai", "sus_tsk", "rsm_tsk", "look", "fetch",
+    "tick",
+    "define task",
+    "cre_dtq",
+    "del_dtq",
+    "snd_dtq",
+    "psnd_dtq",
+    "tsnd_dtq",
+    "fsnd_dtq",
+    "rcv_dtq",
+    "prcv_dtq",
+    "trcv_dtq",
+    "ref_dtq",
+    "cre_mbx",
+    "del_mbx",
+    "snd_mbx",
+    "rcv_mbx",
+    "prcv_mbx",
+    "trcv_mbx",
+    "ref_mbx",
+    "rel_wai",
+    "sus_tsk",
+    "rsm_tsk",
+    "look",
+    "fetch",
 ];
 
 /// One call with its context. Fields that the call does not use are ignored.
@@ -77,9 +98,19 @@ pub enum Answer {
 #[derive(Clone, PartialEq, Eq, Debug)]
 pub enum Wait {
     No,
-    Sending { queue: u32, word: u32, end: Option<u32> },
-    Receiving { queue: u32, end: Option<u32> },
-    AtMailbox { mailbox: u32, end: Option<u32> },
+    Sending {
+        queue: u32,
+        word: u32,
+        end: Option<u32>,
+    },
+    Receiving {
+        queue: u32,
+        end: Option<u32>,
+    },
+    AtMailbox {
+        mailbox: u32,
+        end: Option<u32>,
+    },
 }
 
 #[derive(Clone, PartialEq, Eq, Debug)]
@@ -161,7 +192,14 @@ impl State {
 
 impl Task {
     pub fn undefined() -> Task {
-        Task { exists: false, priority: 0, wait: Wait::No, suspended: false, code: 0, word: 0 }
+        Task {
+            exists: false,
+            priority: 0,
+            wait: Wait::No,
+            suspended: false,
+            code: 0,
+            word: 0,
+        }
     }
 
     pub fn waits(&self) -> bool {
@@ -198,7 +236,13 @@ impl Queue {
 
 impl Mailbox {
     pub fn undefined() -> Mailbox {
-        Mailbox { exists: false, attribute: 0, highest: 0, waiters: Vec::new(), messages: Vec::new() }
+        Mailbox {
+            exists: false,
+            attribute: 0,
+            highest: 0,
+            waiters: Vec::new(),
+            messages: Vec::new(),
+        }
     }
 
     pub fn waiters_by_priority(&self) -> bool {
@@ -235,12 +279,22 @@ impl Wait {
 impl Answer {
     /// A refusal: the code, and all result words 0.
     pub fn refused(code: i32) -> Answer {
-        Answer::Finished { code, a: 0, b: 0, c: 0 }
+        Answer::Finished {
+            code,
+            a: 0,
+            b: 0,
+            c: 0,
+        }
     }
 
     /// Code E_OK with the three result words.
     pub fn done(a: u32, b: u32, c: u32) -> Answer {
-        Answer::Finished { code: crate::errors::E_OK, a, b, c }
+        Answer::Finished {
+            code: crate::errors::E_OK,
+            a,
+            b,
+            c,
+        }
     }
 }
 
@@ -286,13 +340,22 @@ impl Call {
         let (attribute, tmout) = (self.attribute, self.tmout);
         match self.number {
             DEFINE_TASK => write!(out, " task {object} priority {value}"),
-            CRE_DTQ => write!(out, " queue {object} attribute {attribute} capacity {value}"),
+            CRE_DTQ => write!(
+                out,
+                " queue {object} attribute {attribute} capacity {value}"
+            ),
             SND_DTQ | PSND_DTQ | FSND_DTQ => write!(out, " queue {object} word {value}"),
             TSND_DTQ => write!(out, " queue {object} word {value} time-out {tmout}"),
             TRCV_DTQ => write!(out, " queue {object} time-out {tmout}"),
             DEL_DTQ | RCV_DTQ | PRCV_DTQ | REF_DTQ => write!(out, " queue {object}"),
-            CRE_MBX => write!(out, " mailbox {object} attribute {attribute} highest {value}"),
-            SND_MBX => write!(out, " mailbox {object} message {value} priority {attribute}"),
+            CRE_MBX => write!(
+                out,
+                " mailbox {object} attribute {attribute} highest {value}"
+            ),
+            SND_MBX => write!(
+                out,
+                " mailbox {object} message {value} priority {attribute}"
+            ),
             TRCV_MBX => write!(out, " mailbox {object} time-out {tmout}"),
             DEL_MBX | RCV_MBX | PRCV_MBX | REF_MBX => write!(out, " mailbox {object}"),
             REL_WAI | SUS_TSK | RSM_TSK | LOOK | FETCH => write!(out, " task {object}"),
@@ -336,7 +399,11 @@ impl fmt::Display for Task {
 impl fmt::Display for Queue {
     fn fmt(&self, out: &mut fmt::Formatter) -> fmt::Result {
         if self.exists {
-            write!(out, "attribute {}, capacity {}", self.attribute, self.capacity)?;
+            write!(
+                out,
+                "attribute {}, capacity {}",
+                self.attribute, self.capacity
+            )?;
         } else {
             write!(out, "undefined")?;
         }

@@ -12,7 +12,7 @@ impl State {
         if let Some(code) = refusal(self, call, reached) {
             return Answer::refused(code);
         }
-        reached.accepted(call.number);
+        reached.accepted(call);
         match call.number {
             TICK => self.tick(reached),
             DEFINE_TASK => self.define_task(call),
@@ -84,7 +84,12 @@ impl State {
     fn fetch(&self, call: &Call, reached: &mut Reached) -> Answer {
         let task = self.task(call.object);
         reached.fetched(task.code);
-        Answer::Finished { code: task.code, a: task.word, b: 0, c: 0 }
+        Answer::Finished {
+            code: task.code,
+            a: task.word,
+            b: 0,
+            c: 0,
+        }
     }
 
     /// Ends every wait whose end tick is the new counter, in ascending task
@@ -118,7 +123,9 @@ impl State {
     /// smaller or equal number, so equals stay in order of arrival.
     pub(crate) fn place_by_priority(&self, list: &[u32], task: u32) -> usize {
         let priority = self.task(task).priority;
-        let place = list.iter().position(|&other| self.task(other).priority > priority);
+        let place = list
+            .iter()
+            .position(|&other| self.task(other).priority > priority);
         place.unwrap_or(list.len())
     }
 
@@ -144,7 +151,9 @@ impl State {
         task.wait = wait;
         task.code = 0;
         task.word = 0;
-        Answer::Waits { place: place as u32 }
+        Answer::Waits {
+            place: place as u32,
+        }
     }
 
     /// Ends the wait of a task that is out of its list already. A suspended
