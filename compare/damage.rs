@@ -1,6 +1,6 @@
 //! Records that are probably not sound: random ones, and sound ones with something changed. Whether one is sound is not decided here.
 use crate::record::{random_record, random_word};
-use linguastel::{Chains, Record, Task, MAILBOXES, MESSAGES, QUEUES, TASKS};
+use linguastel::{Chains, Record, Task, MAILBOXES, MESSAGES, QUEUES, RECEIVING, SENDING, TASKS};
 use second::Random;
 
 #[derive(Clone, Copy, PartialEq, Eq, Debug)]
@@ -55,6 +55,9 @@ const FARTHEST: u32 = 2_147_483_646;
 /// Limits of some kind, their neighbours, and codes without their sign.
 const SPECIAL: [u8; 20] = [0, 1, 2, 3, 4, 15, 16, 17, 31, 32, 33, 48, 49, 50, 51, 52, 64, 65, 80, 255];
 
+/// The codes without their sign, and numbers that are no code.
+const CODES: [u8; 18] = [0, 5, 17, 18, 25, 28, 41, 42, 43, 48, 49, 50, 51, 52, 1, 128, 205, 255];
+
 fn index(random: &mut Random, most: usize) -> usize {
     random.below(most as u32 + 1) as usize
 }
@@ -96,8 +99,8 @@ pub fn damage(record: &mut Record, damage: Damage, random: &mut Random) {
         Damage::Priority => damage_priority(record, random),
         Damage::Defined => damage_defined(record, random),
         Damage::Code => {
-            let task = &mut record.tasks[index(random, TASKS)];
-            task.code = other_byte(task.code, random);
+            let code = random.pick(&CODES);
+            record.tasks[index(random, TASKS)].code = code;
         }
         Damage::Counter => record.counter = other_word(record.counter, random),
     }
@@ -235,8 +238,16 @@ fn damage_order(record: &mut Record, random: &mut Random) {
     link[second] = first as u8;
 }
 
+/// Every other time the ring of a data queue at which a task waits, if there is one.
 fn damage_ring(record: &mut Record, random: &mut Random) {
-    let ring = &mut record.queues[index(random, QUEUES)].ring;
+    let mut queue = index(random, QUEUES);
+    let waiter = *random_waiter(record, random);
+    let object = usize::from(waiter.object);
+    // Another field may have been damaged before this one.
+    if (waiter.wait == SENDING || waiter.wait == RECEIVING) && object <= QUEUES && random.percent(50) {
+        queue = object;
+    }
+    let ring = &mut record.queues[queue].ring;
     let field = match random.below(3) {
         0 => &mut ring.head,
         1 => &mut ring.count,

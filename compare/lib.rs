@@ -2,6 +2,7 @@
 #![forbid(unsafe_code)]
 pub mod carriers;
 pub mod damage;
+pub mod limits;
 pub mod play;
 pub mod record;
 pub mod runs;

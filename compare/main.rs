@@ -16,7 +16,7 @@ const ALL_KINDS: Round = &[(Kind::Empty, 1), (Kind::Wrap, 1), (Kind::States, 5),
 const RECORDS: Round = &[(Kind::Records, 20)];
 const CARRIERS: Round = &[(Kind::Carriers, 20)];
 /// The carriers' lists are played on the kernel alone, and say nothing of the second program.
-const FOR_A_MUTANT: Round = &[(Kind::Empty, 2), (Kind::Wrap, 2), (Kind::States, 10), (Kind::Records, 1)];
+const FOR_A_MUTANT: Round = &[(Kind::Empty, 1), (Kind::Wrap, 1), (Kind::States, 5), (Kind::Records, 6)];
 
 const CALLS_FOR_A_MUTANT: u64 = 100_000;
 const BETWEEN_REPORTS: Duration = Duration::from_secs(10);

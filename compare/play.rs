@@ -25,7 +25,8 @@ impl Pair {
             self.compare_tick(&before, &kernel)?;
         }
         let played = catch_unwind(AssertUnwindSafe(|| self.state.play(call, reached)));
-        let second = played.map_err(|_| format!("the second program panics\ncall: {call}\n── the state before the call ──\n{}", words_of(&before)))?;
+        let second =
+            played.map_err(|_| format!("the second program panics\ncall: {call}\n── the state before the call ──\n{}", words_of(&before)))?;
         match self.difference(call, &before, &kernel, &second) {
             None => Ok(second),
             Some(what) => Err(self.in_words(&what, call, &before, &kernel, &second)),

@@ -1,10 +1,11 @@
 //! The kinds of run. A run follows from its kind and its seed alone, so that it can be repeated.
 use crate::carriers::{self, compare_merges, two_carriers};
 use crate::damage::{Damage, DAMAGES};
+use crate::limits::next_call;
 use crate::play::Pair;
 use crate::record::{random_word, record_of};
 use crate::unsound::{self, compare_damaged};
-use second::{random_call, random_sound_state, Profile, Random, Reached, State};
+use second::{random_sound_state, Profile, Random, Reached, State};
 
 #[derive(Clone, Copy, PartialEq, Eq, Debug)]
 pub enum Kind {
@@ -137,7 +138,7 @@ impl Totals {
         let mut pair = Pair::new(start, random);
         let profile = random_profile(kind, random);
         for number in 1..=kind.calls_in_a_run() {
-            let call = random_call(random, &profile, &pair.state);
+            let call = next_call(random, &profile, &pair.state);
             self.calls[kind as usize] += 1;
             pair.play(&call, &mut self.reached).map_err(|text| format!("call {number} of the run: {text}"))?;
         }

@@ -412,7 +412,9 @@ mod tests {
 
     #[test]
     fn a_record_that_is_not_run() {
-        for (place, byte, why) in [(0, 24, "unknown call"), (16, 2, "unknown kind"), (2, 4, "unknown flag"), (19, 1, "spare byte"), (31, 255, "spare byte")] {
+        for (place, byte, why) in
+            [(0, 24, "unknown call"), (16, 2, "unknown kind"), (2, 4, "unknown flag"), (19, 1, "spare byte"), (31, 255, "spare byte")]
+        {
             let mut bytes = three();
             bytes[SIZE + place] = byte;
             assert_eq!(line(&bytes), "records 3 differ 1 first 2 tail 0");

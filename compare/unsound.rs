@@ -1,10 +1,11 @@
 //! Records of any kind. The second program judges what was read from one; the kernel's own test must agree. Where the record isn't sound, every call of
 //! known number gets E_SYS and every other one E_PAR, with zero words, and no cell changes. Where it is sound, calls are compared as usual.
 use crate::damage::{damage, DAMAGES};
+use crate::limits::next_call;
 use crate::play::{first_change, words_of, Pair};
 use crate::record::{answer_in_words, kernel_call, record_of, state_of};
 use linguastel::{Record, E_PAR, E_SYS};
-use second::{random_call, Answer, Call, Profile, Random, Reached, State};
+use second::{Answer, Call, Profile, Random, Reached, State};
 use std::collections::BTreeMap;
 
 /// How many records there were, by the kind of damage.
@@ -89,7 +90,7 @@ fn second_refuses(state: State, random: &mut Random, reached: &mut Reached) -> R
 fn play_some(mut pair: Pair, random: &mut Random, counts: &mut Counts, reached: &mut Reached) -> Result<(), String> {
     let profile = any_profile(random);
     for _ in 0..4 {
-        let call = random_call(random, &profile, &pair.state);
+        let call = next_call(random, &profile, &pair.state);
         counts.played += 1;
         pair.play(&call, reached)?;
     }
@@ -102,7 +103,7 @@ fn any_profile(random: &mut Random) -> Profile {
 
 fn refuse_all(record: &Record, random: &mut Random, counts: &mut Counts) -> Result<(), String> {
     let profile = any_profile(random);
-    let call = random_call(random, &profile, &State::empty(0));
+    let call = next_call(random, &profile, &State::empty(0));
     for number in 0..=23 {
         expect(record, &Call { number, ..call }, E_SYS)?;
     }
