@@ -1,7 +1,7 @@
-//! Demand 3 on the kernel: two carriers with tasks, data queues, mailboxes and messages of their own, each with a list of calls. In every merge of the
-//! lists each call answers as when its list runs alone, and all merges end in equal states.
+//! Demand 3 on the kernel: two carriers with tasks, data queues, mailboxes and messages of their own, each with a list of calls. In every merge of
+//! the lists each call answers as when its list runs alone, and all merges end in equal states.
 use crate::play::words_of;
-use crate::record::{answer_in_words, kernel_call, state_of};
+use crate::record::{answer_in_words, kernel_call, record_of, state_of};
 use linguastel::{number, Record, MAILBOXES, MESSAGES, QUEUES, TASKS};
 use second::{random_call, Call, Own, Profile, Random, State, Wait};
 
@@ -32,9 +32,14 @@ fn random_owner(random: &mut Random) -> Owner {
     random.pick(&[0, 0, 0, 1, 1, 1, NOBODY])
 }
 
+/// Entry n is the owner of object n. With `few`, most of the 16 are nobody's, so that a carrier's tasks meet.
+fn object_owners(few: bool, random: &mut Random) -> Vec<Owner> {
+    (0..=16).map(|_| if few && random.percent(75) { NOBODY } else { random_owner(random) }).collect()
+}
+
 /// Whose a task or message may be that stands in an object of this owner: the placement premise binds only what belongs to a carrier.
-fn owner_of_inmate(object: Owner, random: &mut Random) -> Owner {
-    if random.below(8) == 0 {
+fn owner_inside(object: Owner, random: &mut Random) -> Owner {
+    if random.percent(10) {
         NOBODY
     } else {
         object
@@ -42,44 +47,48 @@ fn owner_of_inmate(object: Owner, random: &mut Random) -> Owner {
 }
 
 /// Two carriers with nothing in common, such that this state meets the placement premise.
-pub fn two_carriers(state: &State, random: &mut Random) -> [Own; 2] {
+fn two_carriers(state: &State, random: &mut Random) -> [Own; 2] {
+    let few = random.percent(50);
+    let (of_queue, of_mailbox) = (object_owners(few, random), object_owners(few, random));
     // The third one's numbers are nobody's.
     let nothing = || Own { tasks: Vec::new(), queues: Vec::new(), mailboxes: Vec::new(), messages: Vec::new() };
     let mut owners = [nothing(), nothing(), nothing()];
-    let queue_owners: Vec<Owner> = (0..=QUEUES).map(|_| random_owner(random)).collect();
-    let mailbox_owners: Vec<Owner> = (0..=MAILBOXES).map(|_| random_owner(random)).collect();
-    for queue in 1..=QUEUES {
-        owners[queue_owners[queue]].queues.push(queue as u32);
-    }
-    for mailbox in 1..=MAILBOXES {
-        owners[mailbox_owners[mailbox]].mailboxes.push(mailbox as u32);
+    for object in 1..=16 {
+        owners[of_queue[object]].queues.push(object as u32);
+        owners[of_mailbox[object]].mailboxes.push(object as u32);
     }
     for task in 1..=TASKS {
         let owner = match state.tasks[task].wait {
             Wait::No => random_owner(random),
-            Wait::Sending { queue, .. } | Wait::Receiving { queue, .. } => owner_of_inmate(queue_owners[queue as usize], random),
-            Wait::AtMailbox { mailbox, .. } => owner_of_inmate(mailbox_owners[mailbox as usize], random),
+            Wait::Sending { queue, .. } | Wait::Receiving { queue, .. } => owner_inside(of_queue[queue as usize], random),
+            Wait::AtMailbox { mailbox, .. } => owner_inside(of_mailbox[mailbox as usize], random),
         };
         owners[owner].tasks.push(task as u32);
     }
     for message in 1..=MESSAGES as u32 {
         let owner = match mailbox_with(state, message) {
             None => random_owner(random),
-            Some(mailbox) => owner_of_inmate(mailbox_owners[mailbox], random),
+            Some(mailbox) => owner_inside(of_mailbox[mailbox], random),
         };
         owners[owner].messages.push(message);
     }
-    let [mut first, mut second, _] = owners;
-    if random.percent(50) {
-        // Fewer numbers, so that the tasks meet. What is left over is nobody's.
-        first.cut(6, 2, 6);
-        second.cut(6, 2, 6);
-    }
+    let [first, second, _] = owners;
     [first, second]
 }
 
 fn mailbox_with(state: &State, message: u32) -> Option<usize> {
     (1..=MAILBOXES).find(|&mailbox| state.mailboxes[mailbox].messages.iter().any(|queued| queued.number == message))
+}
+
+/// The placement premise: the carrier's waiting tasks and queued messages stand only in its own objects.
+fn is_placed(state: &State, own: &Own) -> bool {
+    let tasks = own.tasks.iter().all(|&task| match state.tasks[task as usize].wait {
+        Wait::No => true,
+        Wait::Sending { queue, .. } | Wait::Receiving { queue, .. } => own.queues.contains(&queue),
+        Wait::AtMailbox { mailbox, .. } => own.mailboxes.contains(&mailbox),
+    });
+    let in_own = |mailbox: usize| own.mailboxes.contains(&(mailbox as u32));
+    tasks && own.messages.iter().all(|&message| mailbox_with(state, message).is_none_or(in_own))
 }
 
 // ── A list of calls ──
@@ -160,8 +169,13 @@ fn merge_in_words(start: &Record, lists: &[Vec<Answered>; 2], turns: &[Owner]) -
     text
 }
 
-/// Two lists from this record, and some merges of them.
-pub fn compare_merges(start: &Record, carriers: &[Own; 2], random: &mut Random, counts: &mut Counts) -> Result<(), String> {
+/// Two carriers with a list of calls each from this state, and some merges of the lists.
+pub fn compare_merges(state: &State, random: &mut Random, counts: &mut Counts) -> Result<(), String> {
+    let carriers = two_carriers(state, random);
+    if !carriers.iter().all(|own| is_placed(state, own)) {
+        return Err("the carriers don't meet the placement premise".to_string());
+    }
+    let start = &record_of(state, random);
     let lists = [random_list(start, &carriers[0], random)?, random_list(start, &carriers[1], random)?];
     counts.pairs += 1;
     let mut first_end: Option<State> = None;

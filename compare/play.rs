@@ -1,5 +1,5 @@
-//! One call on the kernel and on the second program: the answers must be the same and the states equal, and a refused call must leave every cell of the
-//! kernel's record.
+//! One call on the kernel and on the second program: the answers must be the same and the states equal, and a refused call must leave every cell of
+//! the kernel's record.
 use crate::record::{answer_in_words, kernel_answer, kernel_call, record_of, state_of};
 use linguastel::{number, Outcome, Record, E_OK};
 use second::{Answer, Call, Random, Reached, State};

@@ -1,8 +1,8 @@
 //! The kernel's record in the second program's lists, and such lists as a record.
 //!
-//! Document 01, 'A sound record', says what counts. The rest of a record is unused: cell 0 of every array, links of numbers that stand in no chain, keys
-//! of messages that keep no priority, what an undefined task or object left behind, the fields that a wait doesn't use, a ring's cells outside its
-//! stored words. `state_of` never looks at those, and `record_of` fills them with random numbers.
+//! Document 01, 'A sound record', says what counts. The rest of a record is unused: cell 0 of every array, links of numbers that stand in no chain,
+//! keys of messages that keep no priority, what an undefined task or object left behind, the fields that a wait doesn't use, a ring's cells outside
+//! its stored words. `state_of` never looks at those, and `record_of` fills them with random numbers.
 use linguastel::{Record, AT_MAILBOX, DEFINED, NO_WAIT, RECEIVING, SENDING, SUSPENDED};
 use second::{Answer, Call, Mailbox, Message, Queue, Random, State, Task, Wait};
 
@@ -48,8 +48,8 @@ pub fn answer_in_words(answer: &linguastel::Answer) -> String {
 
 // ── Reading ──
 
-/// The state that a record holds. None where a chain is longer than there are numbers, comes round or leaves the table, where a ring doesn't start at one
-/// of its places, or where a number says nothing: none of these is in a sound record. Whether what was read is sound is for `State::sound` to say.
+/// The state that a record holds. None where a chain is longer than there are numbers, comes round or leaves the table, where a ring doesn't start at
+/// one of its places, or where a number says nothing: none of these is in a sound record. Whether what was read is sound, `State::sound` says.
 pub fn state_of(record: &Record) -> Option<State> {
     let mut state = State::empty(record.counter);
     for number in 1..=TASKS {

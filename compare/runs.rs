@@ -1,10 +1,11 @@
 //! The kinds of run. A run follows from its kind and its seed alone, so that it can be repeated.
-use crate::carriers::{self, compare_merges, two_carriers};
+use crate::carriers::{self, compare_merges};
 use crate::damage::{Damage, DAMAGES};
 use crate::limits::next_call;
 use crate::play::Pair;
 use crate::record::{random_word, record_of};
 use crate::unsound::{self, compare_damaged};
+use linguastel::Record;
 use second::{random_sound_state, Profile, Random, Reached, State};
 
 #[derive(Clone, Copy, PartialEq, Eq, Debug)]
@@ -21,8 +22,8 @@ pub enum Kind {
     Carriers,
 }
 
-/// In how many ways the second program finds a state not sound, but for lists that are too long and numbers in them that are out of range: from such a
-/// record no state is read.
+/// In how many ways the second program finds a state not sound, but for lists that are too long and numbers in them that are out of range: from such
+/// a record no state is read.
 const FAULTS: usize = 22;
 
 pub const KINDS: [Kind; 5] = [Kind::Empty, Kind::Wrap, Kind::States, Kind::Records, Kind::Carriers];
@@ -136,8 +137,16 @@ impl Totals {
 
     fn play(&mut self, kind: Kind, start: State, random: &mut Random) -> Result<(), String> {
         let mut pair = Pair::new(start, random);
+        if kind == Kind::Empty && random.percent(50) {
+            // The empty record as the library makes it.
+            pair.record = Record::empty();
+        }
         let profile = random_profile(kind, random);
         for number in 1..=kind.calls_in_a_run() {
+            // A call may have written unused cells; they get random numbers again.
+            if random.percent(4) {
+                pair.record = record_of(&pair.state, random);
+            }
             let call = next_call(random, &profile, &pair.state);
             self.calls[kind as usize] += 1;
             pair.play(&call, &mut self.reached).map_err(|text| format!("call {number} of the run: {text}"))?;
@@ -147,8 +156,7 @@ impl Totals {
 
     fn merge(&mut self, random: &mut Random) -> Result<(), String> {
         let state = if random.below(3) == 0 { State::empty(random_word(random)) } else { random_start(random) };
-        let carriers = two_carriers(&state, random);
-        compare_merges(&record_of(&state, random), &carriers, random, &mut self.carriers)
+        compare_merges(&state, random, &mut self.carriers)
     }
 
     /// What was compared, a line for each kind.

@@ -1,5 +1,5 @@
-//! `trace [--details] [--counter N] FILE...` plays trace files on the kernel and on the second program, each from the empty state, and prints for each
-//! file the line of document 02, item 3, that either of them gives. The counter starts at 0 or at N, for the files that stand behind it.
+//! `trace [--details] [--counter N] FILE...` plays trace files on the kernel and on the second program, each from the empty state, and prints for
+//! each file the line of document 02, item 3, that either of them gives. The counter starts at 0 or at N, for the files that stand behind it.
 //! `--details` shows the first record that differs. The exit status is 1 where the two programs aren't of one mind, in an answer or in a state.
 //! `trace --write FILE COUNT SEED [--counter N]` writes a trace of random calls with the second program's answers.
 //! `trace --write-bad FILE` writes the trace that `bad_trace` describes.
@@ -261,8 +261,8 @@ fn random_trace(count: usize, seed: u64, counter: u32) -> Vec<u8> {
     writer.bytes
 }
 
-/// 30 records, of which 15 differ, and a tail of 7 bytes. Nine aren't run: an unknown call, two unknown kinds, unknown flags in a call and in a tick, and
-/// each spare byte in turn. Six are run and have another answer than the right one. Two have something in fields that their calls don't use, and
+/// 30 records, of which 15 differ, and a tail of 7 bytes. Nine aren't run: an unknown call, two unknown kinds, unknown flags in a call and in a tick,
+/// and each spare byte in turn. Six are run and have another answer than the right one. Two have something in fields that their calls don't use, and
 /// don't differ. Those at the end have the right answers only if the nine were left out and the six were run.
 fn bad_trace() -> Vec<u8> {
     let handler = |number, object, value| Call { number, object, value, ..Call::default() };

@@ -1,8 +1,8 @@
-//! Records of any kind. The second program judges what was read from one; the kernel's own test must agree. Where the record isn't sound, every call of
-//! known number gets E_SYS and every other one E_PAR, with zero words, and no cell changes. Where it is sound, calls are compared as usual.
+//! Records of any kind. The second program judges what was read from one; the kernel's own test must agree. Where the record isn't sound, every
+//! call of known number gets E_SYS and every other one E_PAR, with zero words, and no cell changes. Where it is sound, calls are compared as usual.
 use crate::damage::{damage, DAMAGES};
 use crate::limits::next_call;
-use crate::play::{first_change, words_of, Pair};
+use crate::play::{first_change, Pair};
 use crate::record::{answer_in_words, kernel_call, record_of, state_of};
 use linguastel::{Record, E_PAR, E_SYS};
 use second::{Answer, Call, Profile, Random, Reached, State};
@@ -64,7 +64,8 @@ fn compare_judgement(record: &Record, way: usize, random: &mut Random, counts: &
     let sound = read.is_some() && fault.is_none();
     counts.count(way, read.is_some(), fault);
     if record.is_sound() != sound {
-        return Err(format!("the kernel's test says sound: {}, the second program: {sound}\n{}", !sound, words_of(record)));
+        let second = read.as_ref().map_or("can't be read".to_string(), |state| state.fault().unwrap_or("sound".to_string()));
+        return Err(format!("the kernel's test says sound: {}; the second program: {second}\n{}", !sound, damaged_in_words(record)));
     }
     match read {
         Some(state) if sound => play_some(Pair { record: *record, state }, random, counts, reached),
@@ -124,5 +125,11 @@ fn expect(record: &Record, call: &Call, code: i32) -> Result<(), String> {
         return Ok(());
     }
     let answers = format!("the kernel answers: {}\nexpected: {}", answer_in_words(&answer), answer_in_words(&refusal));
-    Err(format!("call: {call}\n{answers}\nchanged: {}\nthe record, which isn't sound: {record:?}", first_change(record, &lent)))
+    let change = first_change(record, &lent);
+    Err(format!("call: {call}\n{answers}\nchanged: {change}\n── the record, which isn't sound ──\n{}", damaged_in_words(record)))
+}
+
+/// The state, or all numbers of a record from which none can be read.
+fn damaged_in_words(record: &Record) -> String {
+    state_of(record).map_or_else(|| format!("{record:?}"), |state| state.to_string())
 }
