@@ -11,6 +11,7 @@ pub struct Counts {
     pub merges: u64,
     /// Calls in merges.
     pub calls: u64,
+    /// Those with a code but E_OK, fetch left out: its code may be that of an ended wait.
     pub refused: u64,
     pub waits: u64,
 }
@@ -148,7 +149,7 @@ fn play_merge(start: &Record, lists: &[Vec<Answered>; 2], turns: &[Owner], count
         let answer = record.call(kernel_call(call));
         counts.calls += 1;
         counts.waits += u64::from(answer.waits());
-        counts.refused += u64::from(!answer.waits() && answer.code != 0);
+        counts.refused += u64::from(answer.code != 0 && call.number != number::FETCH);
         if answer != *alone {
             let place = format!("call {} of the merge, call {} of carrier {}: {call}", position + 1, next[turn], turn + 1);
             let answers = format!("in the merge: {}\nalone: {}", answer_in_words(&answer), answer_in_words(alone));

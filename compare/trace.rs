@@ -1,6 +1,5 @@
-//! `trace [--details] [--counter N] FILE...` plays trace files on the kernel and on the second program, each from the empty state, and prints for
-//! each file the line of document 02, item 3, that either of them gives. The counter starts at 0 or at N, for the files that stand behind it.
-//! `--details` shows the first record that differs. The exit status is 1 where the two programs aren't of one mind, in an answer or in a state.
+//! `trace FILE... [--counter N] [--details]` plays trace files on the kernel and on the second program, each from the empty state, at counter 0 or N,
+//! and prints for each file the line of document 02, item 3, that either of them gives. `--details` shows the first record that differs. The exit status is 1 where the two programs aren't of one mind, in an answer or in a state.
 //! `trace --write FILE COUNT SEED [--counter N]` writes a trace of random calls with the second program's answers.
 //! `trace --write-bad FILE` writes the trace that `bad_trace` describes.
 #![forbid(unsafe_code)]
@@ -313,26 +312,33 @@ fn number_in<T: std::str::FromStr>(argument: Option<&String>) -> Result<T, Strin
 
 /// Plays each file; false where the programs were apart.
 fn play_files(arguments: &[String]) -> Result<bool, String> {
-    let mut arguments = arguments.iter();
-    let (mut counter, mut details, mut as_one) = (0, false, true);
-    while let Some(argument) = arguments.next() {
+    let (mut paths, mut counter, mut details) = (Vec::new(), 0, false);
+    let mut left = arguments.iter();
+    while let Some(argument) = left.next() {
         match argument.as_str() {
-            "--counter" => counter = number_in(arguments.next())?,
+            "--counter" => counter = number_in(left.next())?,
             "--details" => details = true,
-            path => {
-                let replay = replay(&read_file(path)?, counter);
-                println!("{path}\nkernel: {}\nsecond program: {}", replay.kernel, replay.second);
-                if let (true, Some(text)) = (details, &replay.details) {
-                    println!("{text}");
-                }
-                if let Some(text) = &replay.apart {
-                    println!("the two programs are apart:\n{text}");
-                    as_one = false;
-                }
-            }
+            option if option.starts_with("--") => return Err(format!("'{option}' isn't known")),
+            path => paths.push(path),
         }
     }
+    let mut as_one = true;
+    for path in paths {
+        as_one &= play_file(path, counter, details)?;
+    }
     Ok(as_one)
+}
+
+fn play_file(path: &str, counter: u32, details: bool) -> Result<bool, String> {
+    let replay = replay(&read_file(path)?, counter);
+    println!("{path}\nkernel: {}\nsecond program: {}", replay.kernel, replay.second);
+    if let (true, Some(text)) = (details, &replay.details) {
+        println!("{text}");
+    }
+    if let Some(text) = &replay.apart {
+        println!("the two programs are apart:\n{text}");
+    }
+    Ok(replay.apart.is_none())
 }
 
 fn write_file(path: &str, bytes: &[u8]) -> Result<bool, String> {
