@@ -85,6 +85,8 @@ fn compare(mut session: Session, whole: bool, done: impl Fn(&Totals) -> bool) ->
     let seconds = session.started.elapsed().as_secs_f64();
     let totals = &session.totals;
     print!("{}", totals.summary());
+    // After a difference much is left unplayed, and says nothing.
+    let whole = whole && found.is_none();
     let missing = if whole { totals.missing() } else { Vec::new() };
     if whole {
         println!("rows and paths of the second program, and how often each was reached\n{}", totals.reached);

@@ -60,16 +60,29 @@ impl Pair {
     }
 
     fn in_words(&self, what: &str, call: &Call, before: &Record, kernel: &linguastel::Answer, second: &Answer) -> String {
-        let (start, left) = (words_of(before), words_of(&self.record));
+        let (start, left, second_left) = (words_of(before), words_of(&self.record), self.state.to_string());
         let answers = format!("the kernel answers: {}\nthe second program answers: {second}", answer_in_words(kernel));
-        let states = format!("── the kernel's state after it ──\n{left}\n── the second program's state after it ──\n{}", self.state);
-        format!("{what}\ncall: {call}\n{answers}\n── the state before the call, of both ──\n{start}\n{states}")
+        let lines = lines_apart(&left, &second_left);
+        let states = format!("── the kernel's state after it ──\n{left}\n── the second program's state after it ──\n{second_left}");
+        format!("{what}\ncall: {call}\n{answers}\n{lines}── the state before the call, of both ──\n{start}\n{states}")
     }
 }
 
 /// Whether a call with this answer changes no cell of the record. Fetch is named because its code may be that of an ended wait.
 fn leaves_the_record(call: &Call, answer: &linguastel::Answer) -> bool {
     call.number == number::FETCH || !matches!(answer.outcome(), Outcome::Finished(E_OK) | Outcome::Waits(_))
+}
+
+/// The lines that only one of two states in words has.
+fn lines_apart(kernel: &str, second: &str) -> String {
+    let mut text = String::new();
+    for line in kernel.lines().filter(|line| !second.lines().any(|other| other == *line)) {
+        text += &format!("only the kernel has: {line}\n");
+    }
+    for line in second.lines().filter(|line| !kernel.lines().any(|other| other == *line)) {
+        text += &format!("only the second program has: {line}\n");
+    }
+    text
 }
 
 pub fn words_of(record: &Record) -> String {
