@@ -1,0 +1,112 @@
+//! One call on the kernel and on the second program: the answers must be the same and the states equal, and a refused call must leave every cell of
+//! the kernel's record.
+use crate::record::{answer_in_words, kernel_answer, kernel_call, record_of, state_of};
+use linguastel::{number, Outcome, Record, E_OK};
+use second::{Answer, Call, Random, Reached, State};
+use std::panic::{catch_unwind, AssertUnwindSafe};
+
+/// The kernel's record and the second program's state, which are equal.
+pub struct Pair {
+    pub record: Record,
+    pub state: State,
+}
+
+impl Pair {
+    /// Unused cells of the record are random.
+    pub fn new(state: State, random: &mut Random) -> Pair {
+        Pair { record: record_of(&state, random), state }
+    }
+
+    /// Plays a call on both. An error is the difference in words.
+    pub fn play(&mut self, call: &Call, reached: &mut Reached) -> Result<Answer, String> {
+        let before = self.record;
+        let kernel = self.record.call(kernel_call(call));
+        if call.number == number::TICK {
+            self.compare_tick(&before, &kernel)?;
+        }
+        let played = catch_unwind(AssertUnwindSafe(|| self.state.play(call, reached)));
+        let second =
+            played.map_err(|_| format!("the second program panics\ncall: {call}\n── the state before the call ──\n{}", words_of(&before)))?;
+        match self.difference(call, &before, &kernel, &second) {
+            None => Ok(second),
+            Some(what) => Err(self.in_words(&what, call, &before, &kernel, &second)),
+        }
+    }
+
+    /// The library's function for the tick does what its call of number 0 did.
+    fn compare_tick(&self, before: &Record, answer: &linguastel::Answer) -> Result<(), String> {
+        let mut record = *before;
+        let ticked = record.tick();
+        if ticked == *answer && record == self.record {
+            return Ok(());
+        }
+        let answers = format!("call of number 0: {}\ntick: {}", answer_in_words(answer), answer_in_words(&ticked));
+        let states = format!("── call of number 0 ──\n{}\n── tick ──\n{}", words_of(&self.record), words_of(&record));
+        Err(format!("the kernel's tick differs from its call of number 0\n{answers}\n── before ──\n{}\n{states}", words_of(before)))
+    }
+
+    fn difference(&self, call: &Call, before: &Record, kernel: &linguastel::Answer, second: &Answer) -> Option<String> {
+        if *kernel != kernel_answer(second) {
+            return Some("the answers differ".to_string());
+        }
+        if leaves_the_record(call, kernel) && self.record != *before {
+            return Some(format!("the call is refused or a fetch, yet the record changed: {}", first_change(before, &self.record)));
+        }
+        match state_of(&self.record) {
+            None => Some("no state can be read from the kernel's record".to_string()),
+            Some(read) if !read.equal(&self.state) => Some("the states differ".to_string()),
+            Some(_) => None,
+        }
+    }
+
+    fn in_words(&self, what: &str, call: &Call, before: &Record, kernel: &linguastel::Answer, second: &Answer) -> String {
+        let (start, left, second_left) = (words_of(before), words_of(&self.record), self.state.to_string());
+        let answers = format!("the kernel answers: {}\nthe second program answers: {second}", answer_in_words(kernel));
+        let lines = lines_apart(&left, &second_left);
+        let states = format!("── the kernel's state after it ──\n{left}\n── the second program's state after it ──\n{second_left}");
+        format!("{what}\ncall: {call}\n{answers}\n{lines}── the state before the call, of both ──\n{start}\n{states}")
+    }
+}
+
+/// Whether a call with this answer changes no cell of the record. Fetch is named because its code may be that of an ended wait.
+fn leaves_the_record(call: &Call, answer: &linguastel::Answer) -> bool {
+    call.number == number::FETCH || !matches!(answer.outcome(), Outcome::Finished(E_OK) | Outcome::Waits(_))
+}
+
+/// The lines that only one of two states in words has.
+fn lines_apart(kernel: &str, second: &str) -> String {
+    let mut text = String::new();
+    for line in kernel.lines().filter(|line| !second.lines().any(|other| other == *line)) {
+        text += &format!("only the kernel has: {line}\n");
+    }
+    for line in second.lines().filter(|line| !kernel.lines().any(|other| other == *line)) {
+        text += &format!("only the second program has: {line}\n");
+    }
+    text
+}
+
+pub fn words_of(record: &Record) -> String {
+    state_of(record).map_or("no state can be read".to_string(), |state| state.to_string())
+}
+
+/// Where two records differ first, by the names of the record's fields.
+pub fn first_change(before: &Record, after: &Record) -> String {
+    if before.counter != after.counter {
+        return format!("counter {} became {}", before.counter, after.counter);
+    }
+    let lists = [
+        in_list("tasks", &before.tasks, &after.tasks),
+        in_list("queues", &before.queues, &after.queues),
+        in_list("waiting.link", &before.waiting.link, &after.waiting.link),
+        in_list("waiting.key", &before.waiting.key, &after.waiting.key),
+        in_list("messages.link", &before.messages.link, &after.messages.link),
+        in_list("messages.key", &before.messages.key, &after.messages.key),
+        in_list("mailboxes", &before.mailboxes, &after.mailboxes),
+    ];
+    lists.into_iter().flatten().next().unwrap_or("nothing".to_string())
+}
+
+fn in_list<T: PartialEq + std::fmt::Debug>(name: &str, before: &[T], after: &[T]) -> Option<String> {
+    let place = (0..before.len()).find(|&place| before[place] != after[place])?;
+    Some(format!("{name}[{place}] {:?} became {:?}", before[place], after[place]))
+}

@@ -1,0 +1,457 @@
+//! `trace FILE... [--counter N] [--details]` plays trace files on the kernel and on the second program, each from the empty state, at counter 0 or N,
+//! and prints for each file the line of document 02, item 3, that either of them gives. `--details` shows the first record that differs. The exit status is 1 where the two programs aren't of one mind, in an answer or in a state.
+//! `trace --write FILE COUNT SEED [--counter N]` writes a trace of random calls with the second program's answers.
+//! `trace --write-bad FILE` writes the trace that `bad_trace` describes.
+#![forbid(unsafe_code)]
+use comparison::record::{answer_in_words, kernel_answer, kernel_call, state_of};
+use linguastel::Record;
+use second::{random_call, Answer, Call, Profile, Random, Reached, State};
+use std::fmt::{Display, Formatter};
+use std::process::ExitCode;
+
+// ── One record ──
+
+const SIZE: usize = 32;
+
+/// The answer as a record has it: code and place stand in the same field.
+#[derive(Clone, Copy, PartialEq)]
+struct Recorded {
+    kind: u8,
+    code_or_place: u32,
+    a: u32,
+    b: u8,
+    c: u16,
+}
+
+impl Recorded {
+    fn is(&self, answer: &linguastel::Answer) -> bool {
+        let code_or_place = if answer.kind == 0 { answer.code as u32 } else { answer.place };
+        let words = (self.a, u32::from(self.b), u32::from(self.c));
+        (u32::from(self.kind), self.code_or_place) == (answer.kind, code_or_place) && words == (answer.a, answer.b, answer.c)
+    }
+}
+
+impl Display for Recorded {
+    fn fmt(&self, to: &mut Formatter) -> std::fmt::Result {
+        if self.kind == 0 {
+            write!(to, "finished, code {}", self.code_or_place as i32)?;
+        } else {
+            write!(to, "waits, place {}", self.code_or_place)?;
+        }
+        write!(to, ", a {}, b {}, c {}", self.a, self.b, self.c)
+    }
+}
+
+fn word_at(bytes: &[u8], place: usize) -> u32 {
+    u32::from_le_bytes([bytes[place], bytes[place + 1], bytes[place + 2], bytes[place + 3]])
+}
+
+/// The call of a record and the answer that was recorded, or why the record isn't run.
+fn read(bytes: &[u8]) -> Result<(Call, Recorded), &'static str> {
+    let [number, caller, flags, object] = [bytes[0], bytes[1], bytes[2], bytes[3]];
+    if number > 23 {
+        return Err("unknown call");
+    }
+    if bytes[16] > 1 {
+        return Err("unknown kind");
+    }
+    if flags > 3 {
+        return Err("unknown flag");
+    }
+    if bytes[17..20] != [0; 3] || bytes[31] != 0 {
+        return Err("spare byte that isn't zero");
+    }
+    let call = Call {
+        number: number.into(),
+        caller: caller.into(),
+        locked: flags & 1 != 0,
+        disabled: flags & 2 != 0,
+        object: object.into(),
+        value: word_at(bytes, 4),
+        tmout: word_at(bytes, 8) as i32,
+        attribute: word_at(bytes, 12),
+    };
+    let (b, c) = (bytes[28], u16::from_le_bytes([bytes[29], bytes[30]]));
+    Ok((call, Recorded { kind: bytes[16], code_or_place: word_at(bytes, 20), a: word_at(bytes, 24), b, c }))
+}
+
+/// The record of a call and its answer; none where one of their numbers doesn't fit in its field.
+fn written(call: &Call, answer: &Answer) -> Option<[u8; SIZE]> {
+    let mut bytes = [0; SIZE];
+    bytes[0] = u8::try_from(call.number).ok()?;
+    bytes[1] = u8::try_from(call.caller).ok()?;
+    bytes[2] = u8::from(call.locked) + 2 * u8::from(call.disabled);
+    bytes[3] = u8::try_from(call.object).ok()?;
+    bytes[4..8].copy_from_slice(&call.value.to_le_bytes());
+    bytes[8..12].copy_from_slice(&call.tmout.to_le_bytes());
+    bytes[12..16].copy_from_slice(&call.attribute.to_le_bytes());
+    match *answer {
+        Answer::Finished { code, a, b, c } => {
+            bytes[20..24].copy_from_slice(&code.to_le_bytes());
+            bytes[24..28].copy_from_slice(&a.to_le_bytes());
+            bytes[28] = u8::try_from(b).ok()?;
+            bytes[29..31].copy_from_slice(&u16::try_from(c).ok()?.to_le_bytes());
+        }
+        Answer::Waits { place } => {
+            bytes[16] = 1;
+            bytes[20..24].copy_from_slice(&place.to_le_bytes());
+        }
+    }
+    Some(bytes)
+}
+
+// ── Playing a file ──
+
+/// The line of item 3.
+#[derive(Clone, Copy, Default, PartialEq, Debug)]
+struct Line {
+    records: u64,
+    differ: u64,
+    first: u64,
+    tail: u64,
+}
+
+impl Line {
+    fn count(&mut self, same: bool) {
+        self.records += 1;
+        if !same {
+            self.differ += 1;
+            if self.first == 0 {
+                self.first = self.records;
+            }
+        }
+    }
+}
+
+impl Display for Line {
+    fn fmt(&self, to: &mut Formatter) -> std::fmt::Result {
+        write!(to, "records {} differ {} first {} tail {}", self.records, self.differ, self.first, self.tail)
+    }
+}
+
+#[derive(Default)]
+struct Replay {
+    kernel: Line,
+    second: Line,
+    /// The first record that differs, in words.
+    details: Option<String>,
+    /// The first record after which the two programs aren't of one mind.
+    apart: Option<String>,
+}
+
+struct Programs {
+    record: Record,
+    state: State,
+}
+
+impl Programs {
+    fn empty(counter: u32) -> Programs {
+        Programs { record: Record { counter, ..Record::empty() }, state: State::empty(counter) }
+    }
+
+    fn play(&mut self, call: &Call) -> (linguastel::Answer, linguastel::Answer) {
+        let kernel = self.record.call(kernel_call(call));
+        (kernel, kernel_answer(&self.state.play(call, &mut Reached::default())))
+    }
+
+    fn same_state(&self) -> bool {
+        state_of(&self.record).is_some_and(|read| read.equal(&self.state))
+    }
+}
+
+fn replay(bytes: &[u8], counter: u32) -> Replay {
+    let mut programs = Programs::empty(counter);
+    let mut replay = Replay::default();
+    let records = bytes.chunks_exact(SIZE);
+    let tail = records.remainder().len() as u64;
+    for record in records {
+        play_record(record, &mut programs, &mut replay);
+    }
+    replay.kernel.tail = tail;
+    replay.second.tail = tail;
+    replay
+}
+
+fn play_record(bytes: &[u8], programs: &mut Programs, replay: &mut Replay) {
+    let number = replay.kernel.records + 1;
+    let (call, recorded) = match read(bytes) {
+        Ok(read) => read,
+        Err(why) => {
+            replay.kernel.count(false);
+            replay.second.count(false);
+            replay.details.get_or_insert_with(|| format!("record {number} isn't run: {why}"));
+            return;
+        }
+    };
+    let (before, state) = (programs.record, programs.state.clone());
+    let (kernel, second) = programs.play(&call);
+    replay.kernel.count(recorded.is(&kernel));
+    replay.second.count(recorded.is(&second));
+    let same = kernel == second && programs.same_state();
+    if same && recorded.is(&kernel) {
+        return;
+    }
+    let in_words = || {
+        let answers = format!("kernel: {}\nsecond program: {}", answer_in_words(&kernel), answer_in_words(&second));
+        let states = format!("state before, of the second program:\n{state}\nafter:\n{}", programs.state);
+        let kernel_states = format!("state before, of the kernel:\n{}\nafter:\n{}", in_words_of(&before), in_words_of(&programs.record));
+        format!("record {number}: {call}\nrecorded: {recorded}\n{answers}\n{states}\n{kernel_states}")
+    };
+    if !same {
+        replay.apart.get_or_insert_with(in_words);
+    }
+    replay.details.get_or_insert_with(in_words);
+}
+
+fn in_words_of(record: &Record) -> String {
+    state_of(record).map_or("no state can be read".to_string(), |state| state.to_string())
+}
+
+// ── Writing a file ──
+
+/// A trace in the making: the second program's state so far, and the records.
+struct Writer {
+    state: State,
+    bytes: Vec<u8>,
+}
+
+impl Writer {
+    fn empty(counter: u32) -> Writer {
+        Writer { state: State::empty(counter), bytes: Vec::new() }
+    }
+
+    /// Plays the call and adds its record; adds nothing where the call doesn't fit into one.
+    fn add(&mut self, call: &Call) -> bool {
+        if call.number > 23 || written(call, &Answer::refused(0)).is_none() {
+            return false;
+        }
+        let answer = self.state.play(call, &mut Reached::default());
+        self.bytes.extend(written(call, &answer).expect("an answer fits into a record"));
+        true
+    }
+
+    /// The same, with one byte of the record changed afterwards.
+    fn add_changed(&mut self, call: &Call, place: usize, byte: u8) {
+        self.add(call);
+        let start = self.bytes.len() - SIZE;
+        self.bytes[start + place] = byte;
+    }
+
+    /// The same for a record that isn't run: the state stays.
+    fn add_not_run(&mut self, call: &Call, place: usize, byte: u8) {
+        let state = self.state.clone();
+        self.add_changed(call, place, byte);
+        self.state = state;
+    }
+}
+
+fn random_trace(count: usize, seed: u64, counter: u32) -> Vec<u8> {
+    let mut random = Random::new(seed);
+    let mut writer = Writer::empty(counter);
+    while writer.bytes.len() < count * SIZE {
+        // What the calls are after changes now and then.
+        let profile = Profile::new(random.pick(&second::KINDS), &mut random);
+        let end = count.min(writer.bytes.len() / SIZE + 200) * SIZE;
+        while writer.bytes.len() < end {
+            let call = random_call(&mut random, &profile, &writer.state);
+            writer.add(&call);
+        }
+    }
+    writer.bytes
+}
+
+/// 30 records, of which 15 differ, and a tail of 7 bytes. Nine aren't run: an unknown call, two unknown kinds, unknown flags in a call and in a tick,
+/// and each spare byte in turn. Six are run and have another answer than the right one. Two have something in fields that their calls don't use, and
+/// don't differ. Those at the end have the right answers only if the nine were left out and the six were run.
+fn bad_trace() -> Vec<u8> {
+    let handler = |number, object, value| Call { number, object, value, ..Call::default() };
+    let by_task = |caller, number, object, value| Call { caller, ..handler(number, object, value) };
+    let tick = Call::default();
+    let mut writer = Writer::empty(0);
+    for task in 1..=3 {
+        writer.add(&handler(1, task, 5));
+    }
+    writer.add(&handler(2, 1, 2));
+    // Each of these would store a word, or count a tick.
+    for (place, byte) in [(0, 24), (16, 2), (16, 255), (2, 4), (17, 1), (18, 1), (19, 1), (31, 1)] {
+        writer.add_not_run(&handler(5, 1, 99), place, byte);
+    }
+    writer.add_not_run(&tick, 2, 4);
+    writer.add(&handler(11, 1, 0));
+    // Unused fields: the attribute of a send, and caller, known flags, object, value and tmout of a tick.
+    writer.add(&Call { attribute: 7, tmout: -9, ..handler(5, 1, 10) });
+    writer.add(&Call { caller: 200, locked: true, disabled: true, object: 77, value: 5, tmout: -9, attribute: 1, ..tick });
+    // Run, with another code, a, b and c than the right ones; then a wait with a word, and one with another place.
+    writer.add_changed(&handler(5, 1, 11), 20, 1);
+    writer.add_changed(&by_task(1, 9, 1, 0), 24, 11);
+    writer.add_changed(&handler(11, 1, 0), 28, 1);
+    writer.add_changed(&handler(11, 1, 0), 30, 1);
+    writer.add(&by_task(1, 5, 1, 12));
+    writer.add_changed(&by_task(1, 4, 1, 13), 24, 1);
+    writer.add_changed(&by_task(2, 4, 1, 14), 20, 0);
+    for task in 1..=3 {
+        writer.add(&handler(22, task, 0));
+    }
+    for _ in 0..4 {
+        writer.add(&by_task(3, 9, 1, 0));
+    }
+    writer.bytes.extend([1; 7]);
+    writer.bytes
+}
+
+// ── Commands ──
+
+fn read_file(path: &str) -> Result<Vec<u8>, String> {
+    std::fs::read(path).map_err(|error| format!("{path}: {error}"))
+}
+
+fn number_in<T: std::str::FromStr>(argument: Option<&String>) -> Result<T, String> {
+    let text = argument.ok_or("a number is missing")?;
+    text.parse().map_err(|_| format!("'{text}' is no number that fits here"))
+}
+
+/// Plays each file; false where the programs were apart.
+fn play_files(arguments: &[String]) -> Result<bool, String> {
+    let (mut paths, mut counter, mut details) = (Vec::new(), 0, false);
+    let mut left = arguments.iter();
+    while let Some(argument) = left.next() {
+        match argument.as_str() {
+            "--counter" => counter = number_in(left.next())?,
+            "--details" => details = true,
+            option if option.starts_with("--") => return Err(format!("'{option}' isn't known")),
+            path => paths.push(path),
+        }
+    }
+    let mut as_one = true;
+    for path in paths {
+        as_one &= play_file(path, counter, details)?;
+    }
+    Ok(as_one)
+}
+
+fn play_file(path: &str, counter: u32, details: bool) -> Result<bool, String> {
+    let replay = replay(&read_file(path)?, counter);
+    println!("{path}\nkernel: {}\nsecond program: {}", replay.kernel, replay.second);
+    if let (true, Some(text)) = (details, &replay.details) {
+        println!("{text}");
+    }
+    if let Some(text) = &replay.apart {
+        println!("the two programs are apart:\n{text}");
+    }
+    Ok(replay.apart.is_none())
+}
+
+fn write_file(path: &str, bytes: &[u8]) -> Result<bool, String> {
+    std::fs::write(path, bytes).map_err(|error| format!("{path}: {error}"))?;
+    Ok(true)
+}
+
+fn write_random(arguments: &[String]) -> Result<bool, String> {
+    let path = arguments.first().ok_or("the file's name is missing")?;
+    let (count, seed) = (number_in(arguments.get(1))?, number_in(arguments.get(2))?);
+    let counter = match arguments.get(3).map(String::as_str) {
+        Some("--counter") => number_in(arguments.get(4))?,
+        Some(other) => return Err(format!("'{other}' isn't known here")),
+        None => 0,
+    };
+    write_file(path, &random_trace(count, seed, counter))
+}
+
+fn run(arguments: &[String]) -> Result<bool, String> {
+    match arguments.first().map(String::as_str) {
+        None => Err("no file is named".to_string()),
+        Some("--write") => write_random(&arguments[1..]),
+        Some("--write-bad") => write_file(arguments.get(1).ok_or("the file's name is missing")?, &bad_trace()),
+        Some(_) => play_files(arguments),
+    }
+}
+
+fn main() -> ExitCode {
+    let arguments: Vec<String> = std::env::args().skip(1).collect();
+    match run(&arguments) {
+        Ok(true) => ExitCode::SUCCESS,
+        Ok(false) => ExitCode::FAILURE,
+        Err(message) => {
+            eprintln!("{message}");
+            ExitCode::from(2)
+        }
+    }
+}
+
+#[cfg(test)]
+mod tests {
+    use super::*;
+
+    fn line(bytes: &[u8]) -> String {
+        let replay = replay(bytes, 0);
+        assert_eq!(replay.kernel, replay.second);
+        assert!(replay.apart.is_none());
+        replay.kernel.to_string()
+    }
+
+    fn three() -> Vec<u8> {
+        let mut writer = Writer::empty(0);
+        for task in 1..=3 {
+            writer.add(&Call { number: 1, object: task, value: 5, ..Call::default() });
+        }
+        writer.bytes
+    }
+
+    #[test]
+    fn no_bytes() {
+        assert_eq!(line(&[]), "records 0 differ 0 first 0 tail 0");
+    }
+
+    #[test]
+    fn second_answer_of_three() {
+        let mut bytes = three();
+        assert_eq!(line(&bytes), "records 3 differ 0 first 0 tail 0");
+        bytes[SIZE + 20] = 1;
+        assert_eq!(line(&bytes), "records 3 differ 1 first 2 tail 0");
+    }
+
+    #[test]
+    fn bytes_after_the_last_record() {
+        assert_eq!(line(&[0; 31]), "records 0 differ 0 first 0 tail 31");
+        assert_eq!(line(&three()[..2 * SIZE + 5]), "records 2 differ 0 first 0 tail 5");
+    }
+
+    #[test]
+    fn a_record_that_is_not_run() {
+        for (place, byte, why) in
+            [(0, 24, "unknown call"), (16, 2, "unknown kind"), (2, 4, "unknown flag"), (19, 1, "spare byte"), (31, 255, "spare byte")]
+        {
+            let mut bytes = three();
+            bytes[SIZE + place] = byte;
+            assert_eq!(line(&bytes), "records 3 differ 1 first 2 tail 0");
+            assert!(replay(&bytes, 0).details.is_some_and(|text| text.contains(why)));
+            // Had task 2 been defined, this would be E_OBJ.
+            bytes.extend(&three()[SIZE..2 * SIZE]);
+            assert_eq!(line(&bytes), "records 4 differ 1 first 2 tail 0");
+        }
+    }
+
+    /// A change in any byte of the answer, or in a spare byte, makes the record differ.
+    #[test]
+    fn every_byte_of_the_answer() {
+        for place in 16..SIZE {
+            let mut bytes = three();
+            bytes[2 * SIZE + place] ^= 0x80;
+            assert_eq!(line(&bytes), "records 3 differ 1 first 3 tail 0", "byte {place}");
+        }
+    }
+
+    #[test]
+    fn what_is_written_is_read_again() {
+        for (seed, counter) in [(1, 0), (2, 0), (3, u32::MAX - 20)] {
+            let replay = replay(&random_trace(2000, seed, counter), counter);
+            assert_eq!(replay.second.to_string(), "records 2000 differ 0 first 0 tail 0");
+            assert_eq!(replay.kernel, replay.second);
+        }
+    }
+
+    #[test]
+    fn bad_records() {
+        assert_eq!(line(&bad_trace()), "records 30 differ 15 first 5 tail 7");
+    }
+}
