@@ -527,7 +527,11 @@ fn on_task(record: &mut Record, call: &Call) -> Outcome {
             task.flags &= !SUSPENDED;
             done()
         }
-        LOOK => gives(task.wait.into(), task.object.into(), suspended.into()),
+        LOOK => {
+            // A host may have left anything in the cells of a wait where there is none.
+            let object = if task.wait == NO_WAIT { 0 } else { task.object };
+            gives(task.wait.into(), object.into(), suspended.into())
+        }
         _ => {
             demand(task.wait == NO_WAIT, E_OBJ)?;
             Ok(finished(-i32::from(task.code), task.word, 0, 0))
