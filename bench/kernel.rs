@@ -37,10 +37,6 @@ fn demand(holds: bool, code: i32) -> Result<(), i32> {
 // Numbers of each kind of object.
 const OBJECTS: usize = 16;
 
-// Chains of the table of waiting tasks before those of receivers, and before those of mailboxes.
-const BEFORE_RECEIVERS: u8 = 16;
-const BEFORE_WAITERS: u8 = 32;
-
 // Whether the four chains with heads from this cell on are empty. Most are, and the compiler reads four heads at once.
 #[inline(always)]
 fn four_empty(link: &[u8; 81], head: usize) -> bool {
@@ -107,14 +103,11 @@ fn task_sound(task: &Task, priority: u8, standing: u8, counter: u32) -> bool {
     if task.flags > DEFINED + SUSPENDED || !(1..=16).contains(&priority) || !matches!(task.code, 0 | 49 | 50 | 51) {
         return false;
     }
-    let before = match task.wait {
-        NO_WAIT => return standing == 0,
-        SENDING => 0,
-        RECEIVING => BEFORE_RECEIVERS,
-        AT_MAILBOX => BEFORE_WAITERS,
-        _ => return false,
-    };
-    if !(1..=16).contains(&task.object) || standing != before + task.object {
+    if task.wait == NO_WAIT {
+        return standing == 0;
+    }
+    // The kinds of chains come in the order of the waits' numbers, with a chain for each object.
+    if task.wait > AT_MAILBOX || !(1..=16).contains(&task.object) || standing != OBJECTS as u8 * (task.wait - 1) + task.object {
         return false;
     }
     match task.timed {
@@ -165,12 +158,12 @@ pub fn sound(record: &Record) -> bool {
     if !chains_sound(&record.waiting.link, &mut standing) || !chains_sound(&record.messages.link, &mut queued) {
         return false;
     }
-    for task in 1..=TASKS {
+    for task in 1..TASKS + 1 {
         if !task_sound(&record.tasks[task], record.waiting.key[task], standing[task], record.counter) {
             return false;
         }
     }
-    for number in 1..=OBJECTS {
+    for number in 1..OBJECTS + 1 {
         if !queue_sound(&record.queues[number], &record.waiting, number) {
             return false;
         }
@@ -218,7 +211,7 @@ fn remove(chains: &mut Chains, head: usize, number: u8) {
 
 // Whether a message is queued in some mailbox. The record has no mark for it, so the chains are followed.
 fn is_queued(messages: &Chains, message: u8) -> bool {
-    (1..=MAILBOXES).any(|mailbox| {
+    (1..MAILBOXES + 1).any(|mailbox| {
         let mut next = messages.link[QUEUED_MESSAGES + mailbox];
         while next != 0 && next != message {
             next = messages.link[next as usize];
@@ -543,7 +536,7 @@ fn on_task(record: &mut Record, call: &Call) -> Outcome {
 fn tick(record: &mut Record) -> Answer {
     record.counter = record.counter.wrapping_add(1);
     let mut ended = 0;
-    for number in 1..=TASKS {
+    for number in 1..TASKS + 1 {
         let task = &record.tasks[number];
         if task.wait != NO_WAIT && task.timed != 0 && task.end == record.counter {
             cancel(record, number as u8, TMOUT);
