@@ -19,6 +19,8 @@ pub struct Cycle {
     // Played once, after the calls that make the record.
     pub before: Vec<Call>,
     pub calls: Vec<Expectation>,
+    // No call takes a task away again. Before each round the host does so for this one, by a cell of the record; 0 for none.
+    pub undefined: usize,
 }
 
 pub struct Situation {
@@ -111,12 +113,13 @@ struct Roles {
 const OK: Expected = Code(E_OK);
 
 fn cycle(name: &'static str, before: &[Call], calls: Vec<Expectation>) -> Cycle {
-    Cycle { name, before: before.to_vec(), calls }
+    Cycle { name, before: before.to_vec(), calls, undefined: 0 }
 }
 
 fn reading(r: &Roles) -> Vec<Cycle> {
     let calls = [by(0, LOOK, r.task), by(0, REF_DTQ, r.stored), by(0, REF_MBX, r.queued), by(0, FETCH, r.me)];
-    vec![cycle("look, ref_dtq, ref_mbx, fetch", &[], calls.map(|call| (call, OK)).to_vec())]
+    let defined = cycle("define_task", &[], vec![(define(r.me, 5), OK)]);
+    vec![Cycle { undefined: r.me as usize, ..defined }, cycle("look, ref_dtq, ref_mbx, fetch", &[], calls.map(|call| (call, OK)).to_vec())]
 }
 
 fn on_queues(r: &Roles) -> Vec<Cycle> {

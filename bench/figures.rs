@@ -1,7 +1,8 @@
 //! What bench/figures runs. `figures same CALLS SEED` plays random calls on the proved library and the baseline and compares; `figures check` plays
 //! every cycle on every program and compares the answers with those expected; `figures times` prints nanoseconds; `figures marked` is run under
-//! callgrind, which counts the instructions between its marks; `figures cycle RECORD ROW PROGRAM ROUNDS` plays one cycle; `figures growth CALLS`
-//! plays as many calls on the typical record and prints nanoseconds for a call and the memory used.
+//! callgrind, which counts the instructions between its marks; `figures rows` lists the cycles and `figures cycle RECORD ROW PROGRAM ROUNDS` plays one
+//! of them; `figures growth CALLS` plays as many calls on the typical record and prints nanoseconds for a call and the memory used. What is
+//! printed for bench/figures has tabs between its fields.
 mod cycles;
 mod programs;
 mod same;
@@ -19,6 +20,7 @@ use std::time::Instant;
 struct Ready<P: Program> {
     program: P,
     calls: Vec<P::Call>,
+    undefined: usize,
 }
 
 fn ready<P: Program>(situation: &Situation, cycle: &Cycle) -> Ready<P> {
@@ -26,12 +28,15 @@ fn ready<P: Program>(situation: &Situation, cycle: &Cycle) -> Ready<P> {
     for call in situation.calls.iter().chain(&cycle.before) {
         program.play(&P::call_of(call));
     }
-    Ready { program, calls: cycle.calls.iter().map(|(call, _)| P::call_of(call)).collect() }
+    Ready { program, calls: cycle.calls.iter().map(|(call, _)| P::call_of(call)).collect(), undefined: cycle.undefined }
 }
 
 #[inline(never)]
 fn rounds<P: Program>(ready: &mut Ready<P>, count: u64) {
     for _ in 0..count {
+        if ready.undefined != 0 {
+            ready.program.undefine(ready.undefined);
+        }
         for call in &ready.calls {
             black_box(ready.program.play(black_box(call)));
         }
@@ -65,6 +70,9 @@ fn check<P: Program>(situation: &Situation, cycle: &Cycle) -> Result<(), String>
         }
     }
     for _ in 0..64 {
+        if cycle.undefined != 0 {
+            program.undefine(cycle.undefined);
+        }
         for (call, expected) in &cycle.calls {
             let answer = program.play(&P::call_of(call));
             if !as_expected(answer, *expected) {
@@ -216,6 +224,14 @@ fn all_marked() {
 
 // ── One cycle, and growth ──
 
+fn rows() {
+    for situation in situations() {
+        for (place, cycle) in situation.cycles.iter().enumerate() {
+            println!("{}\t{place}\t{}\t{}", situation.name, cycle.calls.len(), cycle.name);
+        }
+    }
+}
+
 // ROW is the row's place in the table, from 0, or `all` for every row.
 fn one_cycle(record: &str, row: &str, program: &str, count: u64) -> Option<()> {
     let situations = situations();
@@ -270,6 +286,7 @@ fn run(words: &[&str]) -> Option<Result<(), String>> {
         ["check"] => return Some(check_all()),
         ["times"] => all_times(),
         ["marked"] => all_marked(),
+        ["rows"] => rows(),
         ["cycle", record, row, program, count] => one_cycle(record, row, program, count.parse().ok()?)?,
         ["growth", calls] => growth(calls.parse().ok()?)?,
         _ => return None,
@@ -287,7 +304,7 @@ fn main() {
             exit(1);
         }
         None => {
-            eprintln!("figures same CALLS SEED, check, times, marked, cycle RECORD ROW PROGRAM ROUNDS, or growth CALLS");
+            eprintln!("figures same CALLS SEED, check, times, marked, rows, cycle RECORD ROW PROGRAM ROUNDS, or growth CALLS");
             exit(2);
         }
     }
