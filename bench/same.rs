@@ -73,9 +73,13 @@ impl Run {
         (start..33).chain(1..start).find(|t| *t == 0 || able(t)).unwrap_or(0) as u32
     }
 
-    fn object(&self, random: &mut Random, number: u32) -> u32 {
+    // Sometimes the one that calls: sus_tsk looks at that, for caller 0 too.
+    fn object(&self, random: &mut Random, number: u32, caller: u32) -> u32 {
         if random.one_in(40) {
             return random.pick(&[0, 16, 17, 32, 33, 255, 256, 257, u32::MAX]);
+        }
+        if random.one_in(16) {
+            return caller;
         }
         match number {
             CRE_DTQ..=REF_MBX => 1 + random.below(self.objects),
@@ -94,13 +98,14 @@ impl Run {
 
     fn call(&self, random: &mut Random, record: &Record) -> Call {
         let number = self.number(random);
-        let (locked, disabled) = (random.one_in(50), random.one_in(50));
+        let caller = self.caller(random, record);
+        let (locked, disabled) = (random.one_in(50), random.one_in(16));
         Call {
             number,
-            caller: self.caller(random, record),
+            caller,
             locked: u32::from(locked) * 256,
             disabled: u32::from(disabled) * 2,
-            object: self.object(random, number),
+            object: self.object(random, number, caller),
             value: self.value(random, number),
             tmout: random.pick(&[-2, -1, -1, 0, 1, 1, 2, 3, 5, 9, 100, LONGEST_TMOUT, i32::MAX, i32::MIN]),
             attribute: random.pick(&[0, 0, 1, 1, 2, 2, 3, 3, 4, 5, 8, 16, 17, 256]),
