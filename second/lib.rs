@@ -1,0 +1,22 @@
+//! A second program for data queues, mailboxes, task states and the tick.
+//! It was written from the paper 01-scope.md alone, to be compared with the
+//! proved kernel. Every list is a plain `Vec`, in the order of the list.
+#![forbid(unsafe_code)]
+
+mod errors;
+mod mailboxes;
+mod queues;
+mod random;
+mod random_states;
+mod reached;
+mod sound;
+mod state;
+mod tasks;
+#[cfg(test)]
+mod tests;
+
+pub use errors::*;
+pub use random::*;
+pub use random_states::*;
+pub use reached::*;
+pub use state::*;
