@@ -1,6 +1,6 @@
 //! The records that bench/figures measures, and the cycles of calls that it plays on them. A record is given as the calls that make it from the empty
-//! record, so that every program can be brought to it. A cycle leaves the record as it found it, but for the counter and where a ring starts, so it can
-//! be played again and again.
+//! record, so that every program can be brought to it. A cycle leaves the record as it found it, but for the counter and where a ring starts, so it
+//! can be played again and again.
 use linguastel::number::*;
 use linguastel::*;
 

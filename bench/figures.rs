@@ -1,7 +1,7 @@
 //! What bench/figures runs. `figures same CALLS SEED` plays random calls on the proved library and the baseline and compares; `figures check` plays
 //! every cycle on every program and compares the answers with those expected; `figures times` prints nanoseconds; `figures marked` is run under
-//! callgrind, which counts the instructions between its marks; `figures rows` lists the cycles and `figures cycle RECORD ROW PROGRAM ROUNDS` plays one
-//! of them; `figures growth CALLS` plays as many calls on the typical record and prints nanoseconds for a call and the memory used. What is
+//! callgrind, which counts the instructions between its marks; `figures rows` lists the cycles and `figures cycle RECORD ROW PROGRAM ROUNDS` plays
+//! one of them; `figures growth CALLS` plays as many calls on the typical record and prints nanoseconds for a call and the memory used. What is
 //! printed for bench/figures has tabs between its fields.
 mod cycles;
 mod programs;
@@ -100,7 +100,10 @@ fn same(calls: u64, seed: u64) -> Result<(), String> {
     let counts = same::play(calls, seed)?;
     let least = counts.accepted.iter().min().expect("24 counts");
     println!("{} random calls on the library and the baseline: 0 differences in answers and records", counts.calls);
-    println!("({} refused; each of the 24 calls accepted {least} times or more; {} damaged records tested, {} of them not sound)", counts.refused, counts.damaged, counts.unsound);
+    println!(
+        "({} refused; each of the 24 calls accepted {least} times or more; {} damaged records tested, {} of them not sound)",
+        counts.refused, counts.damaged, counts.unsound
+    );
     Ok(())
 }
 
