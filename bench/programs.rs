@@ -1,6 +1,6 @@
 //! The programs that bench/figures measures, under one trait.
-use baseline;
 use linguastel::{Answer, Call, Record};
+use std::marker::PhantomData;
 
 pub trait Program: Sized {
     const NAME: &'static str;
@@ -14,102 +14,104 @@ pub trait Program: Sized {
     fn undefine(&mut self, task: usize);
 }
 
-fn empty(counter: u32) -> Record {
-    Record { counter, ..Record::empty() }
+// ── The programs that work on the lent record ──
+
+pub trait OnRecord {
+    const NAME: &'static str;
+    fn call(record: &mut Record, call: Call) -> Answer;
+    fn sound(record: &Record) -> bool;
 }
 
-/// The proved library, through its entry `linguastel_call`.
-pub struct Entry(Record);
+/// The proved library, through its entries `linguastel_call` and `linguastel_sound`.
+pub struct Library;
 
-impl Program for Entry {
+impl OnRecord for Library {
     const NAME: &'static str = "entry";
-    type Call = Call;
 
-    fn call_of(call: &Call) -> Call {
-        *call
-    }
-
-    fn empty(counter: u32) -> Entry {
-        Entry(empty(counter))
+    #[inline(always)]
+    fn call(record: &mut Record, call: Call) -> Answer {
+        record.call(call)
     }
 
     #[inline(always)]
-    fn play(&mut self, call: &Call) -> Answer {
-        self.0.call(*call)
-    }
-
-    #[inline(always)]
-    fn sound(&self) -> bool {
-        self.0.is_sound()
-    }
-
-    #[inline(always)]
-    fn undefine(&mut self, task: usize) {
-        self.0.tasks[task].flags = 0;
+    fn sound(record: &Record) -> bool {
+        record.is_sound()
     }
 }
 
 /// The kernel in ordinary Rust, bench/kernel.rs.
-pub struct Baseline(Record);
+pub struct Rust;
 
-impl Program for Baseline {
+impl OnRecord for Rust {
     const NAME: &'static str = "baseline";
-    type Call = Call;
 
-    fn call_of(call: &Call) -> Call {
-        *call
-    }
-
-    fn empty(counter: u32) -> Baseline {
-        Baseline(empty(counter))
+    #[inline(always)]
+    fn call(record: &mut Record, call: Call) -> Answer {
+        baseline::call(record, call)
     }
 
     #[inline(always)]
-    fn play(&mut self, call: &Call) -> Answer {
-        baseline::call(&mut self.0, *call)
-    }
-
-    #[inline(always)]
-    fn sound(&self) -> bool {
-        baseline::sound(&self.0)
-    }
-
-    #[inline(always)]
-    fn undefine(&mut self, task: usize) {
-        self.0.tasks[task].flags = 0;
+    fn sound(record: &Record) -> bool {
+        baseline::sound(record)
     }
 }
 
 /// The same without the test of the record.
-pub struct Untested(Record);
+pub struct RustUntested;
 
-impl Program for Untested {
+impl OnRecord for RustUntested {
     const NAME: &'static str = "untested";
+
+    #[inline(always)]
+    fn call(record: &mut Record, call: Call) -> Answer {
+        baseline::call_untested(record, call)
+    }
+
+    #[inline(always)]
+    fn sound(record: &Record) -> bool {
+        baseline::sound(record)
+    }
+}
+
+/// One of these with the record that it is lent.
+pub struct Lent<K> {
+    record: Record,
+    kernel: PhantomData<K>,
+}
+
+pub type Entry = Lent<Library>;
+pub type Baseline = Lent<Rust>;
+pub type Untested = Lent<RustUntested>;
+
+impl<K: OnRecord> Program for Lent<K> {
+    const NAME: &'static str = K::NAME;
     type Call = Call;
 
     fn call_of(call: &Call) -> Call {
         *call
     }
 
-    fn empty(counter: u32) -> Untested {
-        Untested(empty(counter))
+    fn empty(counter: u32) -> Lent<K> {
+        Lent { record: Record { counter, ..Record::empty() }, kernel: PhantomData }
     }
 
     #[inline(always)]
     fn play(&mut self, call: &Call) -> Answer {
-        baseline::call_untested(&mut self.0, *call)
+        K::call(&mut self.record, *call)
     }
 
     #[inline(always)]
     fn sound(&self) -> bool {
-        true
+        K::sound(&self.record)
     }
 
     #[inline(always)]
     fn undefine(&mut self, task: usize) {
-        self.0.tasks[task].flags = 0;
+        self.record.tasks[task].flags = 0;
     }
 }
+
+// ── The program with a state of its own ──
 
 /// The second program, second/lib.rs. It counts the paths that a call takes, as it does wherever it runs.
 #[cfg(second)]

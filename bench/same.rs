@@ -1,5 +1,4 @@
 //! Random calls on the proved library and on the baseline: the answers and the whole records, cell by cell, have to be the same after each call.
-use baseline;
 use linguastel::number::*;
 use linguastel::*;
 
