@@ -261,23 +261,44 @@ fn memory() -> Option<String> {
     Some(line.split_whitespace().nth(1)?.to_string())
 }
 
-// All cycles of the typical record in turn, each program on its own records that live as long as the run.
-fn growth_of<P: Program>(calls: u64) -> f64 {
-    let situation = &situations()[1];
-    let mut all: Vec<Ready<P>> = situation.cycles.iter().map(|cycle| ready(situation, cycle)).collect();
-    let start = Instant::now();
+// Calls that are timed together.
+const PART: u64 = 1000;
+
+// Plays all cycles once or more, for at least a part, and returns how many calls that were.
+fn part<P: Program>(all: &mut [Ready<P>]) -> u64 {
     let mut played = 0;
-    while played < calls {
-        for ready in &mut all {
+    while played < PART {
+        for ready in all.iter_mut() {
             rounds(ready, 1);
             played += ready.calls.len() as u64;
         }
     }
-    start.elapsed().as_nanos() as f64 / played as f64
+    played
+}
+
+// All cycles of the typical record in turn, on records that live as long as the run: nanoseconds for a call, the mean of the run and the shortest
+// part of its last tenth.
+fn growth_of<P: Program>(calls: u64) -> (f64, f64) {
+    let situation = &situations()[1];
+    let mut all: Vec<Ready<P>> = situation.cycles.iter().map(|cycle| ready(situation, cycle)).collect();
+    let (mut played, mut sum, mut shortest) = (0, 0.0, f64::INFINITY);
+    while played < calls {
+        let start = Instant::now();
+        let more = part(&mut all);
+        let taken = start.elapsed().as_nanos() as f64;
+        played += more;
+        sum += taken;
+        if played >= calls / 10 * 9 {
+            shortest = shortest.min(taken / more as f64);
+        }
+    }
+    (sum / played as f64, shortest)
 }
 
 fn growth(calls: u64) -> Option<()> {
-    println!("{calls}\t{:.1}\t{:.1}\t{}", growth_of::<Entry>(calls), growth_of::<Baseline>(calls), memory()?);
+    let (entry, entry_last) = growth_of::<Entry>(calls);
+    let (baseline, baseline_last) = growth_of::<Baseline>(calls);
+    println!("{calls}\t{entry}\t{entry_last}\t{baseline}\t{baseline_last}\t{}", memory()?);
     Some(())
 }
 
