@@ -43,23 +43,23 @@ HostCallOf a c = CallOf (Own a) (call-of c)
 
 abbrev pub IsolatedForHosts : Type 0
 IsolatedForHosts =
-    (s : State) → Sound s
-    → (a b : Carrier) → Disjoint a b → Placed (Own a) (abs s .rows) → Placed (Own b) (abs s .rows)
+    (r : State) → Sound r
+    → (a b : Carrier) → Disjoint a b → Placed (Own a) (abs r .rows) → Placed (Own b) (abs r .rows)
     → (xs ys : List HostCall) → Each (HostCallOf a) xs → Each (HostCallOf b) ys
-    → Undisturbed HostRun SameState Sound s xs ys
+    → Undisturbed HostRun SameState Sound r xs ys
 
 -- From the record that `linguastel_empty` leaves, nothing more is asked of it.
 abbrev pub IsolatedForHostsFromEmpty : Type 0
 IsolatedForHostsFromEmpty =
-    (s : State) → Sound s → (counter : ℕ) → abs s ≡ empty-state counter
+    (r : State) → Sound r → (counter : ℕ) → abs r ≡ empty-state counter
     → (a b : Carrier) → Disjoint a b
     → (xs ys : List HostCall) → Each (HostCallOf a) xs → Each (HostCallOf b) ys
-    → Undisturbed HostRun SameState Sound s xs ys
+    → Undisturbed HostRun SameState Sound r xs ys
 
 abbrev pub IsolatedManyForHosts : Type 1
 IsolatedManyForHosts =
-    (I : Type 0) (same-owner : Discrete I) (s : State) → Sound s
+    (I : Type 0) (same-owner : Discrete I) (r : State) → Sound r
     → (o : Owners I) (lists : I → List HostCall)
-    → ((i : I) → (lists i ≡ [] → ⊥) → Placed (OwnedBy o i) (abs s .rows))
+    → ((i : I) → (lists i ≡ [] → ⊥) → Placed (OwnedBy o i) (abs r .rows))
     → ((i : I) → Each (λ c. CallOf (OwnedBy o i) (call-of c)) (lists i))
-    → AllUndisturbed same-owner HostRun (LentRunOfTurns Called) SameState s lists
+    → AllUndisturbed same-owner HostRun (LentRunOfTurns Called) SameState r lists
