@@ -1,6 +1,9 @@
 // Reads records from standard input until no whole one is left, and prints for each whether the kernel's state that it describes is sound.
 // A record also says how many times the test is run, so that the test can be timed.
 ghost use Prim.Native.Nat.{_+_, _<_, _≤_};
+use cells::MailboxCells;
+use cells::QueueCells;
+use cells::TaskCells;
 use chain::CELLS;
 use chain::Chains;
 use chain::KEY_CELLS;
@@ -135,7 +138,7 @@ fn code_of(number: u8) -> Code {
 
 // A task's bytes are: defined, suspended, the wait's kind, its object, the end's kind, the stored code, and two that nothing uses. Then come
 // three words: the end's tick, the word that a sender holds, the stored word.
-fn task_at(record: &[u8; RECORD], at: usize) -> Task
+fn task_at(record: &[u8; RECORD], at: usize) -> TaskCells
     requires { ⌜ at + 20 ≤ 1156 ⌝ }
 {
     let defined = flag_at(record, at);
@@ -143,17 +146,17 @@ fn task_at(record: &[u8; RECORD], at: usize) -> Task
     let wait = wait_at(record, at);
     let code = code_of(byte_at(record, at + 5));
     let word = word_at(record, at + 16);
-    Task {
+    cells::write_task(Task {
         defined,
         suspended,
         wait,
         code,
         word,
-    }
+    })
 }
 
 // All tasks, and cell 0, in which anything may stand.
-fn tasks_of(record: &[u8; RECORD]) -> [Task; 33] {
+fn tasks_of(record: &[u8; RECORD]) -> [TaskCells; 33] {
     let first = task_at(record, TASKS);
     let mut tasks = [first; 33];
     let mut t: usize = 1;
@@ -168,7 +171,7 @@ fn tasks_of(record: &[u8; RECORD]) -> [Task; 33] {
 // ── Objects ──
 
 // A data queue's bytes are: defined, attribute, and its ring's head, count and capacity. Soundness asks nothing of the ring's words.
-fn queue_at(record: &[u8; RECORD], at: usize) -> Queue
+fn queue_at(record: &[u8; RECORD], at: usize) -> QueueCells
     requires { ⌜ at + 5 ≤ 1156 ⌝ }
 {
     let defined = flag_at(record, at);
@@ -182,15 +185,15 @@ fn queue_at(record: &[u8; RECORD], at: usize) -> Queue
         count,
         capacity,
     };
-    Queue {
+    cells::write_queue(Queue {
         defined,
         attribute,
         ring,
-    }
+    })
 }
 
 // All data queues, and cell 0.
-fn queues_of(record: &[u8; RECORD]) -> [Queue; 17] {
+fn queues_of(record: &[u8; RECORD]) -> [QueueCells; 17] {
     let first = queue_at(record, QUEUES);
     let mut queues = [first; 17];
     let mut n: usize = 1;
@@ -203,21 +206,21 @@ fn queues_of(record: &[u8; RECORD]) -> [Queue; 17] {
 }
 
 // A mailbox's bytes are: defined, attribute, highest message priority.
-fn mailbox_at(record: &[u8; RECORD], at: usize) -> Mailbox
+fn mailbox_at(record: &[u8; RECORD], at: usize) -> MailboxCells
     requires { ⌜ at + 3 ≤ 1156 ⌝ }
 {
     let defined = flag_at(record, at);
     let attribute = byte_at(record, at + 1);
     let highest = byte_at(record, at + 2);
-    Mailbox {
+    cells::write_mailbox(Mailbox {
         defined,
         attribute,
         highest,
-    }
+    })
 }
 
 // All mailboxes, and cell 0.
-fn mailboxes_of(record: &[u8; RECORD]) -> [Mailbox; 17] {
+fn mailboxes_of(record: &[u8; RECORD]) -> [MailboxCells; 17] {
     let first = mailbox_at(record, MAILBOXES);
     let mut mailboxes = [first; 17];
     let mut n: usize = 1;
@@ -279,10 +282,10 @@ fn state_of(record: &[u8; RECORD]) -> State {
     State {
         counter,
         tasks,
-        waiting,
         queues,
-        mailboxes,
+        waiting,
         messages,
+        mailboxes,
     }
 }
 
