@@ -19,7 +19,7 @@ const NO_ATTRIBUTE: u8 = 255;
 
 // ── Tasks ──
 
-// A task's record. Its priority and the number behind it stand with the chains, as in `State`.
+// A task's cells. Its priority and the number behind it stand with the chains.
 #[repr(C)]
 pub struct TaskCells {
     // The stored pair's word.
@@ -138,7 +138,8 @@ fn code_byte(code: Code) -> u8
     }
 }
 
-fn wait_number(wait: Wait) -> u8
+// The wait's number, as look gives it.
+pub fn wait_number(wait: Wait) -> u8
     ensures { λ r. ⌜ r ≡ wait-number wait ⌝ }
 {
     match wait {
@@ -153,7 +154,8 @@ fn wait_number(wait: Wait) -> u8
     }
 }
 
-fn wait_object(wait: Wait) -> u8
+// The number of the object that the task waits at.
+pub fn wait_object(wait: Wait) -> u8
     ensures { λ r. ⌜ r ≡ wait-object wait ⌝ }
 {
     match wait {
@@ -183,7 +185,8 @@ fn wait_end(wait: Wait) -> End
     }
 }
 
-fn held_word(wait: Wait) -> u32
+// The word that a sender holds.
+pub fn held_word(wait: Wait) -> u32
     ensures { λ r. ⌜ r ≡ held-word wait ⌝ }
 {
     match wait {

@@ -1,5 +1,5 @@
-// The parts of the kernel's record: a task, a data queue, a mailbox, and whose each chain is. What each part means, and when it is sound, which is
-// document 01's word ("A sound record"), is in specs/. The tests are in the crates task_test and object_test.
+// The parts of the kernel's state: a task, a data queue, a mailbox, and whose each chain is. What each part means, and when it is sound, which is
+// document 01's word ("A sound record"), is in specs/. The record keeps them in cells (crate cells). The tests are in the crates task_test and object_test.
 ghost use mathlib.Core.Path.{_≡_};
 ghost use Rattle.model.specs.Rows.{waiters-by-priority, messages-by-priority};
 use model::Code;
@@ -20,8 +20,7 @@ pub const MESSAGES: usize = 64;
 
 pub const MESSAGE_CHAINS: usize = 16;
 
-// A task's record says which wait it is in. Its priority and the number behind it stand in the cells of the same number of the table of
-// waiting tasks. The small fields come last, so that a task takes 24 bytes.
+// A task says which wait it is in. Its priority and the number behind it stand in the cells of the same number of the table of waiting tasks.
 pub struct Task {
     pub wait: Wait,
     // The stored pair: what the last wait ended with.

@@ -5,7 +5,6 @@ ghost use mathlib.Core.Bool.{not};
 ghost use lib.Dec.{T};
 ghost use Rattle.lists.specs.Lists.{empty};
 ghost use Rattle.model.specs.Rows.{task, queue, has-room};
-ghost use Rattle.model.specs.Waits.{held-word};
 ghost use Rattle.model.specs.DataQueues.{deliver, store, replace-oldest, wait-to-send, send, take-oldest, take-oldest-and-refill, take-from-sender, wait-to-receive, receive};
 ghost use Rattle.record.specs.Meaning.{abs};
 ghost use Rattle.record.specs.Step.{Does};
@@ -31,22 +30,6 @@ pub enum Full {
 pub enum Empty {
     Refuse,
     Wait { me: u8, end: End },
-}
-
-// The word that a sender holds.
-fn held_word(wait: Wait) -> u32
-    ensures { λ r. ⌜ r ≡ held-word wait ⌝ }
-{
-    match wait {
-        Wait::NoWait => 0,
-        Wait::Sending {
-            queue: _,
-            end: _,
-            word,
-        } => word,
-        Wait::Receiving { queue: _, end: _ } => 0,
-        Wait::AtMailbox { mailbox: _, end: _ } => 0,
-    }
 }
 
 // ── Sending ──
@@ -167,7 +150,7 @@ fn take_oldest_and_refill(state: State, q: usize) -> Step
     let wait = task.wait;
     let queue = cells::read_queue(state.queues[q]);
     let taken = queue.ring.pop();
-    let ring = taken.ring.push(held_word(wait));
+    let ring = taken.ring.push(cells::held_word(wait));
     let mut released = waits::release(state, q, 0);
     let changed = Queue {
         defined: queue.defined,
@@ -190,7 +173,7 @@ fn take_from_sender(state: State, q: usize) -> Step
     let sender = chain::first(&state.waiting.link, TASKS, TASK_CHAINS, q) as usize;
     let task = cells::read_task(state.tasks[sender]);
     let wait = task.wait;
-    let word = held_word(wait);
+    let word = cells::held_word(wait);
     let released = waits::release(state, q, 0);
     let answer = record::finished(Code::Ok, word, 0, 0);
     Step {

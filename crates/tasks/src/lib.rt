@@ -5,7 +5,7 @@ ghost use lib.Dec.{T};
 ghost use Rattle.rows.specs.Program.{update};
 ghost use Rattle.model.specs.Rows.{task, suspension, same-key, valid};
 ghost use Rattle.model.specs.Tasks.{define-task, rel-wai, sus-tsk, rsm-tsk, look, fetch};
-ghost use Rattle.model.specs.Waits.{wait-number, wait-object, wait-end, due};
+ghost use Rattle.model.specs.Waits.{wait-end, due};
 ghost use Rattle.cells.specs.Tasks.{read-task};
 ghost use Rattle.record.specs.Meaning.{abs};
 ghost use Rattle.record.specs.Sound.{Readable, Sound};
@@ -19,40 +19,6 @@ use parts::TASKS;
 use parts::Task;
 use record::State;
 use record::Step;
-
-// ── What a task's wait says ──
-
-// The wait's number, as look gives it.
-fn wait_number(wait: Wait) -> u32
-    ensures { λ r. ⌜ r ≡ wait-number wait ⌝ }
-{
-    match wait {
-        Wait::NoWait => 0,
-        Wait::Sending {
-            queue: _,
-            end: _,
-            word: _,
-        } => 1,
-        Wait::Receiving { queue: _, end: _ } => 2,
-        Wait::AtMailbox { mailbox: _, end: _ } => 3,
-    }
-}
-
-// The number of the object that the task waits at.
-fn wait_object(wait: Wait) -> u32
-    ensures { λ r. ⌜ r ≡ wait-object wait ⌝ }
-{
-    match wait {
-        Wait::NoWait => 0,
-        Wait::Sending {
-            queue,
-            end: _,
-            word: _,
-        } => queue as u32,
-        Wait::Receiving { queue, end: _ } => queue as u32,
-        Wait::AtMailbox { mailbox, end: _ } => mailbox as u32,
-    }
-}
 
 // Whether the wait in these cells is over when the counter has this value. By equality: less-than would go wrong where the counter wraps.
 fn due(cells: TaskCells, counter: u32) -> bool
@@ -156,9 +122,14 @@ impl Tasks {
         let t = call.object as usize;
         let task = cells::read_task(state.tasks[t]);
         let wait = task.wait;
-        let number = wait_number(wait);
-        let object = wait_object(wait);
-        let answer = record::finished(Code::Ok, number, object, task.suspended as u32);
+        let number = cells::wait_number(wait);
+        let object = cells::wait_object(wait);
+        let answer = record::finished(
+            Code::Ok,
+            number as u32,
+            object as u32,
+            task.suspended as u32,
+        );
         Step { state, answer }
     }
 

@@ -1,10 +1,9 @@
 -- `task_sound` is exact: its tests are, and they say what `TaskSound` says of a defined task, and of an undefined one.
-use mathlib.Core.Path.{_∙_}
 use borrow.Author.Needs.{needs}
 use Rattle.lists.proofs.Tests.{is-and, is-leb, is-eqb}
 use Rattle.parts.proofs.Stops.{stops, goes-on}
 use Rattle.cells.specs.Tasks.{read-task}
-use Rattle.cells.proofs.Reading.{task-defined, reads-whether-able, reads-suspension}
+use Rattle.cells.proofs.Reading.{reads-whether-able, reads-suspension}
 use Rattle.task_test.proofs.Tasks.{defined-task, undefined-task}
 use Rattle.task_test.proofs.task_sound.Statement.{statement}
 use Rattle.task_test.proofs.task_sound.Tie as tie

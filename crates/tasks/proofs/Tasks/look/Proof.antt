@@ -28,6 +28,12 @@ wait-object-requires c κs = search needs
 cast-finished : tie.Need-cast-finished
 cast-finished c = search needs
 
+cast-finished-2 : tie.Need-cast-finished-2
+cast-finished-2 c = search needs
+
+cast-finished-3 : tie.Need-cast-finished-3
+cast-finished-3 c = search needs
+
 finished-requires : tie.Need-finished-requires
 finished-requires c κs = search needs
 
@@ -47,5 +53,7 @@ look-spec =
     wait-number-requires
     wait-object-requires
     cast-finished
+    cast-finished-2
+    cast-finished-3
     finished-requires
     returns)
