@@ -14,16 +14,16 @@ use Rattle.model.specs.WellFormed.{ends-a-wait}
 use Rattle.model.specs.declared.End.the-variants.{Never, At}
 use Rattle.model.specs.declared.Wait.the-variants.{NoWait, Sending, Receiving, AtMailbox}
 use Rattle.cells.specs.declared.TaskCells.{TaskCells}
-use Rattle.cells.specs.Tasks.{end-of, nowhere, wait-of, code-of, read-task}
+use Rattle.cells.specs.Tasks.{end-of, nowhere, wait-of, code-of, defined-by, suspended-by, read-task}
 use Rattle.cells.proofs.Numbers.{task-numbers-code}
 
 -- ── A task ──
 
-pub task-defined : (x : TaskCells) → read-task x .defined ≡ eqb (x .flags) 1 || eqb (x .flags) 3
+pub task-defined : (x : TaskCells) → read-task x .defined ≡ defined-by (x .flags)
 unfolding read-task
 task-defined x = refl
 
-pub task-suspended : (x : TaskCells) → read-task x .suspended ≡ ltb 1 (x .flags)
+pub task-suspended : (x : TaskCells) → read-task x .suspended ≡ suspended-by (x .flags)
 unfolding read-task
 task-suspended x = refl
 
@@ -36,11 +36,11 @@ unfolding read-task
 task-code x = refl
 
 -- A task that isn't defined isn't suspended exactly where its flags are 0.
-pub reads-suspension : (x : TaskCells) → eqb (x .flags) 1 || eqb (x .flags) 3 ≡ false → Whether (T (read-task x .suspended) → ⊥) (eqb (x .flags) 0)
+pub reads-suspension : (x : TaskCells) → defined-by (x .flags) ≡ false → Whether (T (read-task x .suspended) → ⊥) (eqb (x .flags) 0)
 unfolding read-task
 reads-suspension x undefined = is-map (λ z t. absurd (rw z at t)) (λ n. zero-flags (x .flags) n undefined) (is-eqb (x .flags) 0)
   where
-    zero-flags : (n : ℕ) → (T (ltb 1 n) → ⊥) → eqb n 1 || eqb n 3 ≡ false → n ≡ 0
+    zero-flags : (n : ℕ) → (T (suspended-by n) → ⊥) → defined-by n ≡ false → n ≡ 0
     zero-flags zero f u = refl
     zero-flags (suc zero) f u = absurd (true≢false u)
     zero-flags (suc (suc n)) f u = absurd (f (passes-test (is-ltb 1 (suc (suc n))) (omega arith)))

@@ -50,8 +50,14 @@ code-of n =
     (cond (eqb n 51) Dlt Sys))))))))))
 
 -- The flags are a sum: 1 defined, 2 suspended. A number above 3 reads as suspended and undefined, which no task is in a sound record.
+abbrev pub defined-by : ℕ → Bool
+defined-by flags = eqb flags 1 || eqb flags 3
+
+abbrev pub suspended-by : ℕ → Bool
+suspended-by flags = ltb 1 flags
+
 unfoldable pub read-task : TaskCells → Task
-read-task x = record { wait = wait-of x; word = x .word; code = code-of (x .code); defined = eqb (x .flags) 1 || eqb (x .flags) 3; suspended = ltb 1 (x .flags) }
+read-task x = record { wait = wait-of x; word = x .word; code = code-of (x .code); defined = defined-by (x .flags); suspended = suspended-by (x .flags) }
 
 -- Every number of a task's record says something, as is shown of a sound record (crate record, Numbers.antt). A wait's numbers are used only where there is one, the code only of a task that is defined.
 pub record TaskNumbers (x : TaskCells) : Type 0 where

@@ -2,7 +2,7 @@
 // a program in C a tag or a Boolean is a byte that may hold anything; so every cell is a number, and every number is read as something.
 ghost use mathlib.Core.Path.{_≡_};
 ghost use Rattle.model.specs.Waits.{wait-number, wait-object, held-word, wait-end};
-ghost use Rattle.cells.specs.Tasks.{end-of, wait-of, code-of, read-task, code-byte, timed-of, tick-of, flags-of, write-task};
+ghost use Rattle.cells.specs.Tasks.{end-of, wait-of, code-of, defined-by, suspended-by, read-task, code-byte, timed-of, tick-of, flags-of, write-task};
 ghost use Rattle.cells.specs.Objects.{flag, read-queue, write-queue, read-mailbox, write-mailbox};
 use model::Code;
 use model::End;
@@ -103,6 +103,19 @@ fn code_of(number: u8) -> Code
     }
 }
 
+// What the flags say. They are a sum: 1 defined, 2 suspended.
+pub fn is_defined(flags: u8) -> bool
+    ensures { λ r. ⌜ r ≡ defined-by flags ⌝ }
+{
+    (flags == 1) | (flags == 3)
+}
+
+pub fn is_suspended(flags: u8) -> bool
+    ensures { λ r. ⌜ r ≡ suspended-by flags ⌝ }
+{
+    1 < flags
+}
+
 pub fn read_task(cells: TaskCells) -> Task
     ensures { λ r. ⌜ r ≡ read-task cells ⌝ }
 {
@@ -113,8 +126,8 @@ pub fn read_task(cells: TaskCells) -> Task
         wait,
         word: cells.word,
         code,
-        defined: (flags == 1) | (flags == 3),
-        suspended: 1 < flags,
+        defined: is_defined(flags),
+        suspended: is_suspended(flags),
     }
 }
 

@@ -61,7 +61,7 @@ pub fn task_sound(cells: TaskCells, priority: u8, standing: u8, counter: u32) ->
     ensures { λ r. ⌜ Whether (TaskSound counter priority standing (read-task cells)) r ⌝ }
 {
     let flags = cells.flags;
-    if (flags == 1) | (flags == 3) {
+    if cells::is_defined(flags) {
         let code = cells.code;
         if !((1 <= priority) & (priority <= 16) & code_sound(code)) {
             return false;

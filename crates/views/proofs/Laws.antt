@@ -1,10 +1,10 @@
 -- What is seen of the cells of the numbers that a call names is what the call has in view: kind by kind, by the decision whether the number is valid.
 use mathlib.Core.Path.{_≡_, refl, sym, ap, _∙_}
-use mathlib.Core.Bool.{Bool, true, false, cond, _||_}
+use mathlib.Core.Bool.{Bool, true, false, cond}
 use mathlib.Core.List.{List, [], _∷_, headD, List·Memᴰ as In, List·Memᴰ·head as here}
 use Prim.Native.Nat.{ℕ, _+_, _<_, _≤_}
 use native.Mathlib.Omega.{arith}
-use lib.Dec.{T, eqb, ltb}
+use lib.Dec.{T, eqb}
 use lib.ListN.{length, getD}
 use borrow.Author.Tests.{ne-eqb}
 use Rattle.lists.specs.Lists.{empty}
@@ -32,7 +32,7 @@ use Rattle.parts.specs.declared.Task.{Task}
 use Rattle.parts.specs.declared.Queue.{Queue}
 use Rattle.parts.specs.declared.Mailbox.{Mailbox}
 use Rattle.cells.specs.declared.TaskCells.{TaskCells}
-use Rattle.cells.specs.Tasks.{read-task}
+use Rattle.cells.specs.Tasks.{defined-by, suspended-by, read-task}
 use Rattle.cells.proofs.Reading.{task-defined, task-suspended, task-wait, reads-able}
 use Rattle.record.specs.declared.State.{State}
 use Rattle.record.specs.Meaning.{task-at, queue-at, mailbox-at, mailbox-of, cells-of, abs}
@@ -92,9 +92,9 @@ module _ (n : ℕ) where
   pub no-task-seen : (x : Task) → within 1 32 n ≡ false → ShowsTask (task-shown n x) (suspension-shown n x) (record { defined = false; able = true; suspended = false })
   no-task-seen x e = rw e (record { defined = refl; able = refl; suspended = refl })
 
-  pub task-seen : (x : TaskCells) → within 1 32 n ≡ true
-      → ShowsTask (task-shown n (read-task x)) (suspension-shown n (read-task x)) (record { defined = eqb (x .flags) 1 || eqb (x .flags) 3; able = eqb (x .wait) 0; suspended = ltb 1 (x .flags) })
-  task-seen x e = rw e (record { defined = sym (task-defined x); able = sym (ap able (task-wait x) ∙ reads-able x); suspended = sym (task-suspended x) })
+  pub task-seen : (x : TaskCells) {defined suspended : Bool} → within 1 32 n ≡ true → defined ≡ defined-by (x .flags) → suspended ≡ suspended-by (x .flags)
+      → ShowsTask (task-shown n (read-task x)) (suspension-shown n (read-task x)) (record { defined = defined; able = eqb (x .wait) 0; suspended = suspended })
+  task-seen x e d s = rw e (record { defined = d ∙ sym (task-defined x); able = sym (ap able (task-wait x) ∙ reads-able x); suspended = s ∙ sym (task-suspended x) })
 
   pub no-queue-seen : (x : Queue) (link : List ℕ) → within 1 16 n ≡ false
       → ShowsQueue (queue-shown n x link) (record { defined = false; capacity = 0; count = 0; «no_sender» = true; «no_receiver» = true })

@@ -60,9 +60,9 @@ fn see_task(number: u8, cells: TaskCells) -> TaskSeen
     let flags = cells.flags;
     let wait = cells.wait;
     TaskSeen {
-        defined: (flags == 1) | (flags == 3),
+        defined: cells::is_defined(flags),
         able: wait == 0,
-        suspended: 1 < flags,
+        suspended: cells::is_suspended(flags),
     }
 }
 
