@@ -7,7 +7,7 @@ use native.Mathlib.Omega.{arith}
 use native.Mathlib.Nat.{le-of-suc-le-suc}
 use lib.ListN.{length, getD, set, length-set}
 use lib.Seq.{getD-set-same, getD-set-other}
-use Rattle.lists.specs.Lists.{Once, nothing, once, insert-at, remove-at}
+use Rattle.lists.specs.Lists.{Once, no-number, once, insert-at, remove-at}
 use Rattle.lists.proofs.Members.{in-at}
 use Rattle.lists.proofs.Once.{bounded}
 use Rattle.chain.specs.Table.{cells, key-cells, from-number, follow, Chain, ends, goes-on}
@@ -83,7 +83,7 @@ remove-chain {s = s} {cell} (suc i) (goes-on {x = x} {l = l} e lo hi c) z k f h 
 
 -- A chain has each number once.
 pub chain-once : {n : ℕ} {s : List ℕ} {cell : ℕ} {l : List ℕ} → Chain n s cell l → Once l
-chain-once (ends e) = nothing
+chain-once (ends e) = no-number
 chain-once (goes-on e lo hi c) = once (no-loop c) (chain-once c)
 
 -- A chain has at most as many numbers as the table.

@@ -18,8 +18,7 @@ use Rattle.model.specs.Calls.{View, names-queue, creates}
 use Rattle.model.specs.Errors.{task-only, exists}
 use Rattle.model.specs.WaitQueues.{end-waits}
 use Rattle.model.specs.DataQueues.{send, receive, cre-dtq, del-dtq, snd-dtq, psnd-dtq, tsnd-dtq, fsnd-dtq, rcv-dtq, prcv-dtq, trcv-dtq, ref-dtq}
-use Rattle.model.specs.Waits.{end-of}
-use Rattle.model.specs.WellFormed.{senders-of, receivers-of}
+use Rattle.model.specs.Waits.{end-of, senders-of, receivers-of}
 use Rattle.model.specs.declared.Answer.{Answer}
 use Rattle.model.specs.declared.Call.{Call}
 use Rattle.model.specs.declared.Code.the-variants.{Ok as E-OK, Dlt as E-DLT}

@@ -25,12 +25,12 @@ use Rattle.demands.proofs.Runs.{no-tick, follows}
 use Rattle.demands.proofs.Handled.{refused-step, no-error}
 
 -- Fetch that no row refuses answers the stored pair.
-fetch-answers : (m : Model) (c : Call) → c .number ≡ 23 → T (not (refused true (view-of (m .rows) c) c))
-    → step m c .answer ≡ finished (view-of (m .rows) c .the-task .code) (view-of (m .rows) c .the-task .word) 0 0
+fetch-answers : (m : Model) (c : Call) → c .number ≡ 23 → T (not (refused (view-of m c) c))
+    → step m c .answer ≡ finished (view-of m c .the-task .code) (view-of m c .the-task .word) 0 0
 unfolding step-of effect effects run
 fetch-answers m c e t =
-    rw (step-call m c (no-tick (c .number) (omega arith)), run-accepted (m .environment) c (m .rows) t)
-    (ap (λ n. run same-key (getD effects n no-call (m .environment) (view-of (m .rows) c) c) (m .rows) .answer) e)
+    rw (step-call m c (no-tick (c .number) (omega arith)), run-accepted m c t)
+    (ap (λ n. run same-key (getD effects n no-call (m .environment) (view-of m c) c) (m .rows) .answer) e)
 
 -- The first row to apply gives the code; where none applies there is no refusal.
 first-applies : {row : ErrorRow} {rows : List ErrorRow} → FirstToApply row rows → T (some-applies rows) × (first-that-applies rows ≡ row .code)

@@ -54,7 +54,7 @@ first-is-error (both {x = row} {xs = rows} e es) t = go (row .applies) (λ u. fi
     go false later u = later u
 
 module _ (v : View) (c : Call) where
-  pub refusal-is-error : T (refused true v c) → T (is-error (refusal true v c))
+  pub refusal-is-error : T (refused v c) → T (is-error (refusal v c))
   unfolding refused refusal error-table
   refusal-is-error t = first-is-error (both tt (both tt (both tt (both tt (both tt (both tt (both tt (both tt (both tt (both tt (both tt (both tt none)))))))))))) t
 
@@ -63,11 +63,11 @@ module _ (v : View) (c : Call) where
   unfolding unknown
   known low high = not-T (not (within 1 call-limit (c .number))) (λ n. T-not (within 1 call-limit (c .number)) n (to-within 1 call-limit (c .number) low high))
 
-  caller-refused : T (caller-cannot-call v c) → T (refused true v c)
+  caller-refused : T (caller-cannot-call v c) → T (refused v c)
   unfolding refused error-table some-applies
   caller-refused t = or-right (unknown c) _ (or-left (caller-cannot-call v c) _ t)
 
-  caller-refusal : T (not (unknown c)) → T (caller-cannot-call v c) → refusal true v c ≡ E-SYS
+  caller-refusal : T (not (unknown c)) → T (caller-cannot-call v c) → refusal v c ≡ E-SYS
   unfolding refusal error-table first-that-applies
   caller-refusal k t = cond-no (unknown c) _ _ k ∙ cond-yes (caller-cannot-call v c) _ _ t
 
@@ -103,12 +103,12 @@ tick-says-ok m = expire-says-ok ((m .environment .counter + 1) % counter-span) (
 -- ── Every call ──
 
 module _ {s : State} {c : Call} {r : Step} (h : Stepped s c r) (S : Sound s) where
-  pub refused-step : 1 ≤ c .number → T (refused true (view-in s c) c) → r ≡ refusal-of (refusal true (view-in s c) c) s
+  pub refused-step : 1 ≤ c .number → T (refused (view-in s c) c) → r ≡ refusal-of (refusal (view-in s c) c) s
   refused-step low t =
       let f = follows h S in
       let not-tick = no-tick (c .number) low in
       let state = f .unchanged not-tick t in
-      let answer : r .answer ≡ finished (refusal true (view-in s c) c) 0 0 0 = f .answer-is ∙ ap (λ (o : Program.Result Model Answer). o .answer) (refusals (abs s) c not-tick .by-row t) in
+      let answer : r .answer ≡ finished (refusal (view-in s c) c) 0 0 0 = f .answer-is ∙ ap (λ (o : Program.Result Model Answer). o .answer) (refusals (abs s) c not-tick .by-row t) in
       λ i. record { state = state i; answer = answer i }
 
   tick-step : c .number ≡ 0 → r .answer ≡ finished E-OK (r .answer .a) 0 0
@@ -116,14 +116,14 @@ module _ {s : State} {c : Call} {r : Step} (h : Stepped s c r) (S : Sound s) whe
       rw (follows h S .answer-is, step-tick (abs s) c (subst (λ n. T (eqb n 0)) (sym e) (eqb-refl 0)))
       (tick-says-ok (abs s))
 
-  pub no-error : 1 ≤ c .number → c .number ≢ 23 → T (not (refused true (view-in s c) c)) → NoError (r .answer .outcome)
+  pub no-error : 1 ≤ c .number → c .number ≢ 23 → T (not (refused (view-in s c) c)) → NoError (r .answer .outcome)
   no-error low other t = rw (follows h S .answer-is) (refusals (abs s) c (no-tick (c .number) low) .else-no-error t (not-T (eqb (c .number) 23) (λ u. other (eqb→eq (c .number) 23 u))))
 
   -- Where no row applies there is no error, and the tick answers none.
   other-step : c .number ≢ 23 → (code : Code) → r .answer .outcome ≡ Finished code → code ≢ E-OK → (r ≡ refusal-of code s) × T (is-error code)
   other-step other code e fault = elim (ℕ-discrete (c .number) 0) [
     | yes zero ↦ absurd (fault (ok code e (ap (λ (x : Answer). x .outcome) (tick-step zero))))
-    | no n ↦ passes-or-not (refused true v c) (by-row (omega arith)) (λ t. absurd (fault (ok-code code (r .answer .outcome) e (no-error (omega arith) other t))))
+    | no n ↦ passes-or-not (refused v c) (by-row (omega arith)) (λ t. absurd (fault (ok-code code (r .answer .outcome) e (no-error (omega arith) other t))))
   ]
     where
       v : View
@@ -136,10 +136,10 @@ module _ {s : State} {c : Call} {r : Step} (h : Stepped s c r) (S : Sound s) whe
       ok-code code (Finished d) e f = cc
       ok-code code (Waits place) e f = cc
 
-      by-row : 1 ≤ c .number → T (refused true v c) → (r ≡ refusal-of code s) × T (is-error code)
+      by-row : 1 ≤ c .number → T (refused v c) → (r ≡ refusal-of code s) × T (is-error code)
       by-row low t =
           let step = refused-step low t in
-          let same : refusal true v c ≡ code = cc (ap (λ (x : Step). x .answer .outcome) step) in
+          let same : refusal v c ≡ code = cc (ap (λ (x : Step). x .answer .outcome) step) in
           subst (λ d. (r ≡ refusal-of d s) × T (is-error d)) same (step, refusal-is-error v c t)
 
 pub handled : Handled

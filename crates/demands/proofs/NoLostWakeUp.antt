@@ -7,7 +7,8 @@ use lib.Dec.{T}
 use Rattle.lists.specs.Lists.{empty}
 use Rattle.rows.specs.Program as Program
 use Rattle.model.specs.Rows.{Row}
-use Rattle.model.specs.WellFormed.{senders-of, receivers-of, waiters-of, wait-queue, WellFormedRows}
+use Rattle.model.specs.WellFormed.{WellFormedRows}
+use Rattle.model.specs.Waits.{senders-of, receivers-of, waiters-of, wait-queue}
 use Rattle.demands.specs.NoLostWakeUp.{NobodyWaitsForWhatIsThere, NoLostWakeUp}
 use Rattle.demands.proofs.Runs.{run-follows}
 

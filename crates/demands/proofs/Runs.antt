@@ -33,11 +33,11 @@ is-unknown c h = go (leb 1 (c .number)) (leb (c .number) call-limit) (lt-leb (c 
     go true b e = rw e
     go false b e = refl
 
-pub unknown-refused : (v : View) (c : Call) → call-limit < c .number → T (refused true v c)
+pub unknown-refused : (v : View) (c : Call) → call-limit < c .number → T (refused v c)
 unfolding refused error-table some-applies
 unknown-refused v c h = rw (is-unknown c h) tt
 
-pub unknown-refusal : (v : View) (c : Call) → call-limit < c .number → refusal true v c ≡ E-PAR
+pub unknown-refusal : (v : View) (c : Call) → call-limit < c .number → refusal v c ≡ E-PAR
 unfolding refusal error-table first-that-applies
 unknown-refusal v c h = rw (is-unknown c h) refl
 
@@ -48,7 +48,7 @@ no-tick n h = not-T (eqb n 0) (λ t. let e = eqb→eq n 0 t in omega arith)
 module _ {s : State} {c : Call} {r : Step} (h : Stepped s c r) (S : Sound s) where
   unknown-follows : call-limit < c .number → Follows s c r
   unknown-follows above =
-      let v = view-of (abs s .rows) c in
+      let v = view-of (abs s) c in
       let e = h .unknown above in
       let by-row = refusals (abs s) c (no-tick (c .number) (omega arith)) .by-row (unknown-refused v c above) in
       let code = unknown-refusal v c above in

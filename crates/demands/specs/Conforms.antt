@@ -26,7 +26,7 @@ pub data FirstToApply (row : ErrorRow) : List ErrorRow → Type 0 where
 
 -- The table of errors, for this call on a sound record.
 abbrev pub errors : State → Call → List ErrorRow
-errors s c = error-table true (view-in s c) c
+errors s c = error-table (view-in s c) c
 
 -- The sound record s with the call c gave r. Number 0 is the tick, which the table leaves alone; number 23 is fetch.
 pub record ConformsSo (s : State) (c : Call) (r : Step) : Type 0 where

@@ -35,7 +35,7 @@ is-error E-DLT = false
 
 -- What the call has in view in this record.
 abbrev pub view-in : State → Call → View
-view-in s c = view-of (abs s .rows) c
+view-in s c = view-of (abs s) c
 
 -- The record s with the call c gave r. `refusal-of code s` is that code with zero result words, and the very record s. (That every step ends, and does nothing undefined on its way, the checker
 -- proves of every function.)
@@ -47,7 +47,7 @@ pub record HandledSo (s : State) (c : Call) (r : Step) : Type 0 where
   -- So does a caller that can't call. The tick, number 0, has no caller.
   pub cannot-call : Sound s → 1 ≤ c .number → c .number ≤ call-limit → T (caller-cannot-call (view-in s c) c) → r ≡ refusal-of E-SYS s
   -- A call to which a row of the table applies is refused with the code of the first such row, which is one of document 01's errors.
-  pub refused-by-row : Sound s → 1 ≤ c .number → T (refused true (view-in s c) c) → (r ≡ refusal-of (refusal true (view-in s c) c) s) × T (is-error (refusal true (view-in s c) c))
+  pub refused-by-row : Sound s → 1 ≤ c .number → T (refused (view-in s c) c) → (r ≡ refusal-of (refusal (view-in s c) c) s) × T (is-error (refusal (view-in s c) c))
   -- There is no other refusal: whatever answers a code but E_OK is refused so. Only fetch, number 23, can answer a code that isn't its own but that of an ended wait.
   pub no-other-refusal : Sound s → c .number ≢ 23 → (code : Code) → r .answer .outcome ≡ Finished code → code ≢ E-OK → (r ≡ refusal-of code s) × T (is-error code)
   -- The tick is never refused: E_OK, and one word.

@@ -1,26 +1,23 @@
 -- What the code is handed of the rows that a call has in view (crates/model/specs/Calls.antt, `View`): all that the error table asks of them.
 use mathlib.Core.Path.{_≡_}
 use mathlib.Core.Bool.{Bool, true, false}
-use mathlib.Core.List.{List}
-use lib.Dec.{eqb}
-use lib.ListN.{length, drop}
+use lib.Dec.{T, eqb}
+use lib.ListN.{length}
 use Rattle.lists.specs.Lists.{empty}
 use Rattle.model.specs.Rows.{TaskRow, QueueRow, MailboxRow}
 use Rattle.model.specs.Waits.{able}
-use Rattle.model.specs.Calls.{View}
-use Rattle.model.specs.Errors.{ErrorRow, error-table}
+use Rattle.model.specs.Calls.{reads-suspension, View}
+use Rattle.model.specs.declared.Code.the-variants.{Ok, Sys, Par, Id, Ctx, Iluse, Obj, Noexs, Qovr, Rlwai, Tmout, Dlt}
 use Rattle.model.specs.declared.Call.{Call}
 use Rattle.model.specs.declared.Code.{Code}
-use Rattle.model.specs.declared.Code.the-variants.{Ok, Sys, Par, Id, Ctx, Iluse, Obj, Noexs, Qovr, Rlwai, Tmout, Dlt}
 use Rattle.errors.specs.declared.TaskSeen.{TaskSeen}
 use Rattle.errors.specs.declared.QueueSeen.{QueueSeen}
 use Rattle.errors.specs.declared.MailboxSeen.{MailboxSeen}
 use Rattle.errors.specs.declared.Seen.{Seen}
 
-pub record ShowsTask (x : TaskRow) (is-suspended : Bool) (y : TaskSeen) : Type 0 where
+pub record ShowsTask (x : TaskRow) (y : TaskSeen) : Type 0 where
   pub defined : y .defined ≡ x .defined
   pub able : y .able ≡ able (x .wait)
-  pub suspended : y .suspended ≡ is-suspended
 
 pub record ShowsQueue (x : QueueRow) (y : QueueSeen) : Type 0 where
   pub defined : y .defined ≡ x .defined
@@ -35,16 +32,15 @@ pub record ShowsMailbox (x : MailboxRow) (y : MailboxSeen) : Type 0 where
   pub highest : y .highest ≡ x .highest
   pub no-message : y .«no_message» ≡ empty (x .messages)
 
-pub record Shows (v : View) (y : Seen) : Type 0 where
-  pub caller : ShowsTask (v .caller) (v .caller-suspended) (y .caller)
-  pub task : ShowsTask (v .the-task) (v .suspended) (y .task)
+-- A named task's suspension is shown to the calls to which it matters.
+pub record Shows (v : View) (c : Call) (y : Seen) : Type 0 where
+  pub caller : ShowsTask (v .caller .row) (y .caller)
+  pub caller-suspended : y .caller .suspended ≡ v .caller .suspended
+  pub task : ShowsTask (v .the-task) (y .task)
+  pub suspended : T (reads-suspension c) → y .task .suspended ≡ v .suspended
   pub queue : ShowsQueue (v .the-queue) (y .queue)
   pub mailbox : ShowsMailbox (v .the-mailbox) (y .mailbox)
   pub free : y .«message_free» ≡ eqb (v .the-message .queued-in) 0
-
--- The rows of the table from step 5 on: step 1 has two of the six before.
-abbrev pub from-step-5 : View → Call → List ErrorRow
-from-step-5 v c = drop 6 (error-table true v c)
 
 -- E_OK alone: the code of a call that no row of the table refuses (proofs/Laws.antt).
 abbrev pub is-ok : Code → Bool

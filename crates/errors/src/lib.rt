@@ -7,7 +7,7 @@ ghost use Rattle.model.specs.Rows as rows;
 ghost use Rattle.model.specs.Calls as calls;
 ghost use Rattle.model.specs.Calls.{View};
 ghost use Rattle.model.specs.Errors as table;
-ghost use Rattle.errors.specs.Seen.{Shows, from-step-5, is-ok};
+ghost use Rattle.errors.specs.Seen.{Shows, is-ok};
 use model::Call;
 use model::Code;
 
@@ -64,17 +64,16 @@ fn has_tmout(call: Call) -> bool
 
 // ── Step 0 ──
 
-// Number 0 is the tick, which is no call: here it is unknown too.
 fn unknown(call: Call) -> bool
     ensures { λ r. ⌜ r ≡ table.unknown call ⌝ }
 {
-    !names::within(1, 23, call.number as u32)
+    23 < call.number
 }
 
 // ── Step 1 ──
 
 fn caller_cannot_call(call: Call, seen: Seen) -> bool
-    ensures { λ r. ⌜ ((v : View) → Shows v seen → r ≡ table.caller-cannot-call v call) ⌝ }
+    ensures { λ r. ⌜ ((v : View) → Shows v call seen → r ≡ table.caller-cannot-call (v .caller) call) ⌝ }
 {
     let n = call.caller;
     (n != 0) & ((32 < n) | !seen.caller.defined | !seen.caller.able | seen.caller.suspended)
@@ -197,7 +196,7 @@ fn field_outside(call: Call) -> bool
 // ── Step 5 ──
 
 fn exists(call: Call, seen: Seen) -> bool
-    ensures { λ r. ⌜ ((v : View) → Shows v seen → r ≡ table.exists v call) ⌝ }
+    ensures { λ r. ⌜ ((v : View) → Shows v call seen → r ≡ table.exists v call) ⌝ }
 {
     names::names_task(call) & seen.task.defined
         | names::names_queue(call) & seen.queue.defined
@@ -205,7 +204,7 @@ fn exists(call: Call, seen: Seen) -> bool
 }
 
 fn missing(call: Call, seen: Seen) -> bool
-    ensures { λ r. ⌜ ((v : View) → Shows v seen → r ≡ table.missing v call) ⌝ }
+    ensures { λ r. ⌜ ((v : View) → Shows v call seen → r ≡ table.missing v call) ⌝ }
 {
     !creates(call) & !exists(call, seen)
 }
@@ -213,7 +212,7 @@ fn missing(call: Call, seen: Seen) -> bool
 // ── Steps 6a to 6d ──
 
 fn message_priority_outside(call: Call, seen: Seen) -> bool
-    ensures { λ r. ⌜ ((v : View) → Shows v seen → r ≡ table.message-priority-outside v call) ⌝ }
+    ensures { λ r. ⌜ ((v : View) → Shows v call seen → r ≡ table.message-priority-outside v call) ⌝ }
 {
     let by_priority = messages_by_priority(seen.mailbox.attribute as u32);
     let highest = seen.mailbox.highest as u32;
@@ -222,7 +221,7 @@ fn message_priority_outside(call: Call, seen: Seen) -> bool
 
 // 1, 2, 12: already exists. 14: message already queued. 19: task not waiting. 21: task not suspended. 23: task waiting.
 fn wrong_state(call: Call, seen: Seen) -> bool
-    ensures { λ r. ⌜ ((v : View) → Shows v seen → r ≡ table.wrong-state v call) ⌝ }
+    ensures { λ r. ⌜ ((v : View) → Shows v call seen → r ≡ table.wrong-state v call) ⌝ }
 {
     let n = call.number;
     creates(call) & exists(call, seen)
@@ -233,14 +232,14 @@ fn wrong_state(call: Call, seen: Seen) -> bool
 }
 
 fn suspended_already(call: Call, seen: Seen) -> bool
-    ensures { λ r. ⌜ ((v : View) → Shows v seen → r ≡ table.suspended-already v call) ⌝ }
+    ensures { λ r. ⌜ ((v : View) → Shows v call seen → r ≡ table.suspended-already v call) ⌝ }
 {
     (call.number == 20) & seen.task.suspended
 }
 
 // A waiting receiver is served, whatever the capacity.
 fn nothing_to_drop(call: Call, seen: Seen) -> bool
-    ensures { λ r. ⌜ ((v : View) → Shows v seen → r ≡ table.nothing-to-drop v call) ⌝ }
+    ensures { λ r. ⌜ ((v : View) → Shows v call seen → r ≡ table.nothing-to-drop v call) ⌝ }
 {
     (call.number == 7) & (seen.queue.capacity == 0) & seen.queue.no_receiver
 }
@@ -257,7 +256,7 @@ fn polls(call: Call) -> bool
 
 // A send with no receiver and no room, a receive with no word and no sender, a receive from a mailbox with no message.
 fn would_wait(call: Call, seen: Seen) -> bool
-    ensures { λ r. ⌜ ((v : View) → Shows v seen → r ≡ table.would-wait v call) ⌝ }
+    ensures { λ r. ⌜ ((v : View) → Shows v call seen → r ≡ table.would-wait v call) ⌝ }
 {
     let n = call.number as u32;
     let count = seen.queue.count;
@@ -268,7 +267,7 @@ fn would_wait(call: Call, seen: Seen) -> bool
 }
 
 fn poll_would_wait(call: Call, seen: Seen) -> bool
-    ensures { λ r. ⌜ ((v : View) → Shows v seen → r ≡ (table.polls call && table.would-wait v call)) ⌝ }
+    ensures { λ r. ⌜ ((v : View) → Shows v call seen → r ≡ (table.polls call && table.would-wait v call)) ⌝ }
 {
     polls(call) & would_wait(call, seen)
 }
@@ -277,7 +276,7 @@ fn poll_would_wait(call: Call, seen: Seen) -> bool
 
 // Steps 5 to 7, for a call that passes those before.
 fn refusal_from_step_5(call: Call, seen: Seen) -> Code
-    ensures { λ r. ⌜ ((v : View) → Shows v seen → r ≡ table.first-that-applies (from-step-5 v call)) ⌝ }
+    ensures { λ r. ⌜ ((v : View) → Shows v call seen → r ≡ table.first-that-applies (table.rows-from-step-5 v call)) ⌝ }
 {
     if missing(call, seen) {
         return Code::Noexs;
@@ -300,9 +299,9 @@ fn refusal_from_step_5(call: Call, seen: Seen) -> Code
     Code::Ok
 }
 
-// The code of the first row that applies, E_OK where none does. Step 1's test of the state isn't made here.
+// The code of the first row that applies, E_OK where none does. Step 1's test of the state is made before (crate kernel).
 pub fn refusal(call: Call, seen: Seen) -> Code
-    ensures { λ r. ⌜ ((v : View) → Shows v seen → r ≡ table.refusal true v call) ⌝ }
+    ensures { λ r. ⌜ ((v : View) → Shows v call seen → r ≡ table.refusal v call) ⌝ }
 {
     if unknown(call) {
         return Code::Par;

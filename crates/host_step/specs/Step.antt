@@ -31,7 +31,7 @@ pub record HostFollows (s : State) (c : HostCall) (x : HostStep) : Type 0 where
   pub answer-is : x .answer ≡ answer-of (step (abs s) (call-of c) .answer)
   pub meaning-is : abs (x .state) ≡ step (abs s) (call-of c) .state
   pub sound : Sound (x .state)
-  pub unchanged : T (not (eqb (c .number) 0)) → T (refused true (view-of (abs s .rows) (call-of c)) (call-of c)) → x .state ≡ s
+  pub unchanged : T (not (eqb (c .number) 0)) → T (refused (view-of (abs s) (call-of c)) (call-of c)) → x .state ≡ s
 
 -- A step of any record, whatever its numbers, with any call.
 pub record HostStepped (s : State) (c : HostCall) (x : HostStep) : Type 0 where

@@ -30,4 +30,4 @@ of-number {s = s} {c} n a e = subst (λ k. Accepted k s c) e (a .accepted)
 -- What the definition of this number does is what the call does.
 pub as-effect : {low high : ℕ} {s : State} {c : Call} {r : Step} (n : ℕ) → Known low high s c → c .number ≡ n → Performs (getD effects n no-call) s c r → Performs effect s c r
 unfolding effect
-as-effect {s = s} {c} {r} n a e p = subst (λ k. Does (getD effects k no-call (abs s .environment) (view-of (abs s .rows) c) c) s r) (sym e) p
+as-effect {s = s} {c} {r} n a e p = subst (λ k. Does (getD effects k no-call (abs s .environment) (view-of (abs s) c) c) s r) (sym e) p

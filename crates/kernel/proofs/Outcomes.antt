@@ -31,12 +31,12 @@ use Rattle.record.specs.Step.{Becomes, Performs, refusal-of, Follows, Stepped}
 use Rattle.tasks.specs.Tick.{Ticked}
 
 -- An accepted call's step is its effect, run.
-accepted-step : (m : Model) (c : Call) → T (not (eqb (c .number) 0)) → T (not (refused true (view-of (m .rows) c) c)) → step m c ≡ record {
-  state = record { environment = m .environment; rows = run same-key (effect (m .environment) (view-of (m .rows) c) c) (m .rows) .state };
-  answer = run same-key (effect (m .environment) (view-of (m .rows) c) c) (m .rows) .answer;
+accepted-step : (m : Model) (c : Call) → T (not (eqb (c .number) 0)) → T (not (refused (view-of m c) c)) → step m c ≡ record {
+  state = record { environment = m .environment; rows = run same-key (effect (m .environment) (view-of m c) c) (m .rows) .state };
+  answer = run same-key (effect (m .environment) (view-of m c) c) (m .rows) .answer;
 }
 unfolding step-of
-accepted-step m c n t = step-call m c n ∙ ap (λ o. record { state = record { environment = m .environment; rows = o .state }; answer = o .answer }) (run-accepted (m .environment) c (m .rows) t)
+accepted-step m c n t = step-call m c n ∙ ap (λ o. record { state = record { environment = m .environment; rows = o .state }; answer = o .answer }) (run-accepted m c t)
 
 -- A record with the same counter means these rows.
 same-model : {s r : State} {m : Program.Rows Row} → Becomes s m r → abs r ≡ record { environment = abs s .environment; rows = m }
@@ -48,15 +48,15 @@ kept-sound : {s u : State} (c : Call) → Sound s → Readable u → abs u ≡ s
 kept-sound {s} c S readable e = record { readable = readable; well-formed = subst WellFormed (sym e) (kept-well-formed (abs s) c (S .well-formed)) }
 
 -- What the test of the table's code says.
-module _ (s : State) (c : Call) {code : Code} {answer : Bool} (code-is : code ≡ refusal true (view-of (abs s .rows) c) c) (answer-is : answer ≡ is-ok code) where
-  ok-is : is-ok (refusal true (view-of (abs s .rows) c) c) ≡ answer
+module _ (s : State) (c : Call) {code : Code} {answer : Bool} (code-is : code ≡ refusal (view-of (abs s) c) c) (answer-is : answer ≡ is-ok code) where
+  ok-is : is-ok (refusal (view-of (abs s) c) c) ≡ answer
   ok-is = ap is-ok (sym code-is) ∙ sym answer-is
 
-  pub is-refused : not answer ≡ true → T (refused true (view-of (abs s .rows) c) c)
-  is-refused h = not-accepted (view-of (abs s .rows) c) c (rw ok-is (rw h tt))
+  pub is-refused : not answer ≡ true → T (refused (view-of (abs s) c) c)
+  is-refused h = not-accepted (view-of (abs s) c) c (rw ok-is (rw h tt))
 
-  pub is-accepted : not answer ≡ false → T (not (refused true (view-of (abs s .rows) c) c))
-  is-accepted h = accepted (view-of (abs s .rows) c) c (rw (ok-is, not-false answer h) tt)
+  pub is-accepted : not answer ≡ false → T (not (refused (view-of (abs s) c) c))
+  is-accepted h = accepted (view-of (abs s) c) c (rw (ok-is, not-false answer h) tt)
 
 module _ {s : State} {c : Call} {r : Step} where
   -- ── The three kinds of outcome ──
@@ -84,7 +84,7 @@ module _ {s : State} {c : Call} {r : Step} where
       }
 
   module _ (S : Sound s) (some : c .number ≡ 0 → ⊥) where
-    pub follows-refused : {code : Code} → T (refused true (view-of (abs s .rows) c) c) → code ≡ refusal true (view-of (abs s .rows) c) c → r ≡ refusal-of code s → Follows s c r
+    pub follows-refused : {code : Code} → T (refused (view-of (abs s) c) c) → code ≡ refusal (view-of (abs s) c) c → r ≡ refusal-of code s → Follows s c r
     follows-refused {code} t e f =
         let row = refusals (abs s) c (no-eqb some) .by-row t in
         let same : r .state ≡ s = ap (λ (o : Step). o .state) f in
@@ -96,7 +96,7 @@ module _ {s : State} {c : Call} {r : Step} where
           unchanged = λ n u. same;
         }
 
-    pub follows-accepted : T (not (refused true (view-of (abs s .rows) c) c)) → Performs effect s c r → Follows s c r
+    pub follows-accepted : T (not (refused (view-of (abs s) c) c)) → Performs effect s c r → Follows s c r
     follows-accepted t p =
         let done = sym (accepted-step (abs s) c (no-eqb some) t) in
         let meaning : abs (r .state) ≡ step (abs s) c .state = same-model (p .becomes) ∙ ap (λ o. o .state) done in
@@ -104,5 +104,5 @@ module _ {s : State} {c : Call} {r : Step} where
           answer-is = p .answer-is ∙ ap (λ o. o .answer) done;
           meaning-is = meaning;
           sound = kept-sound c S (p .becomes .readable) meaning;
-          unchanged = λ n u. absurd (T-not (refused true (view-of (abs s .rows) c) c) t u);
+          unchanged = λ n u. absurd (T-not (refused (view-of (abs s) c) c) t u);
         }

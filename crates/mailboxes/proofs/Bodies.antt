@@ -20,9 +20,9 @@ use Rattle.model.specs.Rows.{task, mailbox, message, same-key, valid, MailboxRo
 use Rattle.model.specs.Codes.{finished}
 use Rattle.model.specs.declared.End.{End}
 use Rattle.model.specs.declared.Wait.the-variants.{AtMailbox}
-use Rattle.model.specs.WaitQueues.{place, release}
+use Rattle.model.specs.WaitQueues.{place, release, set-standing}
 use Rattle.model.specs.Mailboxes.{deliver-message, queue-message, take-message, wait-for-message, receive-message}
-use Rattle.model.specs.WellFormed.{waiters-of, set-standing}
+use Rattle.model.specs.Waits.{waiters-of}
 use Rattle.model.specs.declared.Code.the-variants.{Ok as E-OK}
 use Rattle.model.proofs.Choices.{cond-yes}
 use Rattle.model.proofs.Tests.{from-within, to-within}

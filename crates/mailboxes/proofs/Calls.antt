@@ -18,8 +18,7 @@ use Rattle.model.specs.Codes.{finished}
 use Rattle.model.specs.Calls.{creates, names-mailbox, message-of, highest-of, message-priority-of, View}
 use Rattle.model.specs.Errors.{task-only, exists, polls, would-wait}
 use Rattle.model.specs.Mailboxes.{deliver-message, queue-message, take-message, wait-for-message, send-message, receive-message, cre-mbx, del-mbx, snd-mbx, rcv-mbx, prcv-mbx, trcv-mbx, ref-mbx}
-use Rattle.model.specs.Waits.{end-of}
-use Rattle.model.specs.WellFormed.{waiters-of}
+use Rattle.model.specs.Waits.{end-of, waiters-of}
 use Rattle.model.specs.declared.Call.{Call}
 use Rattle.model.specs.declared.Code.the-variants.{Ok as E-OK, Dlt as E-DLT}
 use Rattle.model.specs.declared.End.{End}

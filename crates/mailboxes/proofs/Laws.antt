@@ -20,7 +20,7 @@ use Rattle.chain.proofs.Standing.{stands-there, new-list, other-list}
 use Rattle.chain.proofs.Laws.{inserted-standing, popped-standing, cleared-standing}
 use Rattle.model.specs.Sizes.{mailbox-limit, message-limit}
 use Rattle.model.specs.Rows.{Key, task, suspension, queue, mailbox, message, same-key, valid, MessageRow, free, with-messages}
-use Rattle.model.specs.WellFormed.{waiters-of}
+use Rattle.model.specs.Waits.{waiters-of}
 use Rattle.model.proofs.Tests.{from-within, to-within}
 use Rattle.model.proofs.RowMoves.{with-message-rows, freed}
 use Rattle.parts.specs.Chains.{message-chains, tasks-in, messages-in}

@@ -2,7 +2,7 @@
 use mathlib.Core.Path.{_≡_, refl, sym, subst, fun-ext}
 use mathlib.Core.Bool.{Bool, true, false, not, cond, _||_}
 use mathlib.Core.List.{List, [], _∷_, map}
-use mathlib.Core.Option.{some, Option·none-ne-some, Option·some-injective}
+use mathlib.Core.Option.{Option, some}
 use Prim.Native.Nat.{ℕ}
 use lib.Dec.{T, eqb}
 use borrow.Author.Tests.{eq-eqb, ne-eqb}
@@ -12,10 +12,10 @@ use Rattle.rows.specs.Program.{return, get, put, if_then_else_, get-each, updat
 use Rattle.rows.proofs.Run.{run-get-each}
 use Rattle.model.specs.Rows.{Key, task, suspension, queue, mailbox, message, same-key, Row, Effect, free}
 use Rattle.model.specs.Codes.{Code}
-use Rattle.model.specs.Waits.{Wait, NoWait, Sending, Receiving, AtMailbox, ended}
-use Rattle.model.specs.WaitQueues.{take-out, end-wait}
+use Rattle.model.specs.Waits.{ended, WaitQueue, wait-queue}
+use Rattle.model.specs.WaitQueues.{leave-queue, end-wait, standing-in, set-standing}
 use Rattle.model.specs.Mailboxes.{free-messages}
-use Rattle.model.specs.WellFormed.{WaitQueue, senders-of, receivers-of, waiters-of, standing-in, wait-queue, WellFormedRows, set-standing}
+use Rattle.model.specs.WellFormed.{WellFormedRows}
 use Rattle.model.specs.declared.Answer.{Answer}
 use Rattle.model.proofs.Choices.{cond-both}
 use Rattle.model.proofs.Standing.{message-cases}
@@ -55,19 +55,16 @@ module _ {Q : Program.Rows Row → Answer → Type 0} where
 
   -- ── What several calls share ──
 
-  after-take-out : (t : ℕ) (x : Wait) (c : WaitQueue) (p : Effect) (m : Program.Rows Row) → wait-queue x ≡ some c
-      → After Q p (set-standing c (without t (standing-in m c)) m) → After Q (take-out t x p) m
-  unfolding take-out set-standing
-  after-take-out t NoWait c p m e h = absurd (Option·none-ne-some c e)
-  after-take-out t (Sending q end word) c p m e h = after-get (after-put (rw (← Option·some-injective (senders-of q) c e) at h))
-  after-take-out t (Receiving q end) c p m e h = after-get (after-put (rw (← Option·some-injective (receivers-of q) c e) at h))
-  after-take-out t (AtMailbox b end) c p m e h = after-get (after-put (rw (← Option·some-injective (waiters-of b) c e) at h))
+  after-leave-queue : (t : ℕ) (x : Option WaitQueue) (c : WaitQueue) (p : Effect) (m : Program.Rows Row) → x ≡ some c
+      → After Q p (set-standing c (without t (standing-in m c)) m) → After Q (leave-queue t x p) m
+  unfolding leave-queue set-standing
+  after-leave-queue t x c p m e h = subst (λ y. After Q (leave-queue t y p) m) (sym e) (after-get (after-put h))
 
   -- The task of the wait queue that its wait names.
   pub after-end-wait : (t : ℕ) (code : Code) (c : WaitQueue) (p : Effect) (m : Program.Rows Row) → wait-queue (m (task t) .wait) ≡ some c
       → After Q p (update same-key (task t) (ended code 0 (m (task t))) (set-standing c (without t (standing-in m c)) m)) → After Q (end-wait t code p) m
   unfolding end-wait
-  after-end-wait t code c p m e h = after-get (after-take-out t (m (task t) .wait) c _ m e (after-put h))
+  after-end-wait t code c p m e h = after-get (after-leave-queue t (wait-queue (m (task t) .wait)) c _ m e (after-put h))
 
   pub after-free-messages : (l : List ℕ) (p : Effect) (m : Program.Rows Row) → After Q p (with-message-rows (freed l m) m) → After Q (free-messages l p) m
   unfolding free-messages one-of same-key update

@@ -74,16 +74,16 @@ module _ {v : View} {c : Call} (p : Passes v c) where
   exists-already h = T-not-not (exists v c) (not-both (not (creates c)) (not (exists v c)) (p .step-5) h)
 
   -- A call of a task alone has a caller that can call.
-  caller-fits : T (task-only c) → T (not (ltb task-limit (c .caller) || not (v .caller .defined) || not (able (v .caller .wait)) || v .caller-suspended))
+  caller-fits : T (task-only c) → T (not (ltb task-limit (c .caller) || not (v .caller .row .defined) || not (able (v .caller .row .wait)) || v .caller .suspended))
   unfolding caller-cannot-call called-by-handler
-  caller-fits h = not-both (not (eqb (c .caller) 0)) (ltb task-limit (c .caller) || not (v .caller .defined) || not (able (v .caller .wait)) || v .caller-suspended) (p .step-1)
+  caller-fits h = not-both (not (eqb (c .caller) 0)) (ltb task-limit (c .caller) || not (v .caller .row .defined) || not (able (v .caller .row .wait)) || v .caller .suspended) (p .step-1)
       (not-both-left (eqb (c .caller) 0) (task-only c) (search (p .step-2, neither-left, neither-right)) h)
 
-  pub caller-defined : T (task-only c) → T (v .caller .defined)
-  caller-defined h = T-not-not (v .caller .defined) (let fit = caller-fits h in search (fit, neither-left, neither-right))
+  pub caller-defined : T (task-only c) → T (v .caller .row .defined)
+  caller-defined h = T-not-not (v .caller .row .defined) (let fit = caller-fits h in search (fit, neither-left, neither-right))
 
-  pub caller-able : T (task-only c) → v .caller .wait ≡ NoWait
-  caller-able h = able-no-wait (v .caller .wait) (T-not-not (able (v .caller .wait)) (let fit = caller-fits h in search (fit, neither-left, neither-right)))
+  pub caller-able : T (task-only c) → v .caller .row .wait ≡ NoWait
+  caller-able h = able-no-wait (v .caller .row .wait) (T-not-not (able (v .caller .row .wait)) (let fit = caller-fits h in search (fit, neither-left, neither-right)))
 
   pub message-priority : T (names-message c) → T (messages-by-priority (v .the-mailbox .attribute)) → (1 ≤ message-priority-of c) × (message-priority-of c ≤ v .the-mailbox .highest)
   unfolding message-priority-outside

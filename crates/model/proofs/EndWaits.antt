@@ -13,9 +13,9 @@ use Rattle.rows.specs.Program.{update}
 use Rattle.rows.proofs.Update.{update-same, update-other}
 use Rattle.model.specs.Rows.{task, mailbox, same-key, Row, Effect}
 use Rattle.model.specs.Codes.{Code}
-use Rattle.model.specs.Waits.{ended}
-use Rattle.model.specs.WaitQueues.{end-waits}
-use Rattle.model.specs.WellFormed.{WaitQueue, standing-in, wait-queue, ends-a-wait, WellFormedRows, set-standing}
+use Rattle.model.specs.Waits.{ended, WaitQueue, wait-queue}
+use Rattle.model.specs.WaitQueues.{end-waits, standing-in, set-standing}
+use Rattle.model.specs.WellFormed.{ends-a-wait, WellFormedRows}
 use Rattle.model.specs.declared.Answer.{Answer}
 use Rattle.model.proofs.Standing.{same-queue, changed, set-standing-is}
 use Rattle.model.proofs.WaitMoves.{standing-moved, leave}

@@ -1,24 +1,27 @@
 -- Each call's program touches only the rows that it names and what stands in them, and an accepted call answers no error: by the rules of footprints, a line
 -- for each call.
-use mathlib.Core.Bool.{true, not, _&&_}
+use mathlib.Core.Path.{_≡_, refl, sym, subst}
+use mathlib.Core.Bool.{Bool, true, false, not, _&&_, cond}
 use mathlib.Core.List.{List, [], _∷_, headD}
+use mathlib.Core.Option.{Option, none as no-queue, some, Option·map}
 use Prim.Native.Nat.{ℕ, _≤_}
 use native.Mathlib.Omega.{arith}
-use lib.Dec.{T, T-not, eqb}
+use lib.Dec.{T, T-not, eqb, nltb→le}
 use mir.Facts.{T-not-not, yes-and}
 use lib.ListN.{length}
 use Rattle.lists.specs.Lists.{Each, none, both, empty, one-of}
+use Rattle.lists.specs.Options.{IfSome}
 use Rattle.lists.proofs.Each.{each-tail, each-head, each-append, each-insert, each-without}
 use Rattle.lists.proofs.Positions.{EachNumbered, _then_, at-number}
-use Rattle.rows.specs.Program.{get}
-use Rattle.rows.proofs.Footprint.{Within, in-return, in-get, in-put, in-get-each, in-if, within-map}
-use Rattle.model.specs.Sizes.{call-limit, within}
+use Rattle.rows.specs.Program.{Program, get}
+use Rattle.rows.proofs.Footprint.{Within, in-return, in-get, in-put, in-get-each, in-if, within-map, in-run-first}
+use Rattle.model.specs.Sizes.{call-limit}
 use Rattle.model.specs.Rows.{Key, task, suspension, queue, mailbox, message, valid, Row, TaskRow, QueueRow, MailboxRow, Environment, Effect, has-room, free, nothing}
 use Rattle.model.specs.Codes.{Code}
-use Rattle.model.specs.Calls.{Call, View, read-if-valid, read-view, names}
-use Rattle.model.specs.Waits.{Wait, NoWait, Sending, Receiving, AtMailbox, End}
-use Rattle.model.specs.Errors.{unknown, polls, would-wait, refused}
-use Rattle.model.specs.WaitQueues.{release, take-out, end-wait, end-waits}
+use Rattle.model.specs.Calls.{Call, CallerView, View, read-if-valid, see-caller, see-named, names-task, reads-suspension, task-named, suspension-named, names}
+use Rattle.model.specs.Waits.{End, WaitQueue, senders-of, receivers-of, waiters-of, object-of}
+use Rattle.model.specs.Errors.{unknown, exists, missing, polls, would-wait, ErrorRow, rows-to-step-4, rows-from-step-5, error-table, some-applies, unless-refused, refused}
+use Rattle.model.specs.WaitQueues.{release, leave-queue, end-wait, end-waits}
 use Rattle.model.specs.DataQueues.{deliver, store, replace-oldest, wait-to-send, send, take-oldest, take-oldest-and-refill, take-from-sender, wait-to-receive, receive, cre-dtq, del-dtq, snd-dtq, psnd-dtq, tsnd-dtq, fsnd-dtq, rcv-dtq, prcv-dtq, trcv-dtq, ref-dtq}
 use Rattle.model.specs.Mailboxes.{free-messages, deliver-message, queue-message, take-message, wait-for-message, send-message, receive-message, cre-mbx, del-mbx, snd-mbx, rcv-mbx, prcv-mbx, trcv-mbx, ref-mbx}
 use Rattle.model.specs.Tasks.{define-task, rel-wai, sus-tsk, rsm-tsk, look, fetch}
@@ -26,9 +29,9 @@ use Rattle.model.specs.Step.{effects, effect, no-call, program}
 use Rattle.model.specs.Refusals.{NoError}
 use Rattle.model.specs.Isolation.{WaitsIn, QueuedIn}
 use Rattle.model.specs.declared.Answer.{Answer}
-use Rattle.model.proofs.Tests.{from-within, or-left}
-use Rattle.model.proofs.Step.{numbered}
-use Rattle.model.proofs.Accepted.{Passes, passes, Accepted, accepted}
+use Rattle.model.proofs.Tests.{or-left, neither}
+use Rattle.model.proofs.Step.{applies-append, numbered}
+use Rattle.model.proofs.Accepted.{reads-named, Passes, passes, Accepted, accepted}
 
 -- These tasks, and these messages, are in S.
 abbrev pub Tasks : (Key → Type 0) → List ℕ → Type 0
@@ -101,16 +104,16 @@ module _ (S : Key → Type 0) (n : ℕ) where
   unfolding release
   in-release t code word p s h = search Rules
 
-  in-take-out : (t : ℕ) (w : Wait) (p : Effect) → WaitsIn S w → In p → In (take-out t w p)
-  unfolding take-out
-  in-take-out t NoWait p s h = h
-  in-take-out t (Sending q end word) p s h = search Rules
-  in-take-out t (Receiving q end) p s h = search Rules
-  in-take-out t (AtMailbox b end) p s h = search Rules
+  in-leave-queue : (t : ℕ) (x : Option WaitQueue) (p : Effect) → IfSome S (Option·map object-of x) → In p → In (leave-queue t x p)
+  unfolding leave-queue
+  in-leave-queue t no-queue p s h = h
+  in-leave-queue t (some (senders-of q)) p s h = search Rules
+  in-leave-queue t (some (receivers-of q)) p s h = search Rules
+  in-leave-queue t (some (waiters-of b)) p s h = search Rules
 
   in-end-wait : (t : ℕ) (code : Code) (p : Effect) → S (task t) → In p → In (end-wait t code p)
   unfolding end-wait
-  in-end-wait t code p s h = search (Rules, in-take-out)
+  in-end-wait t code p s h = search (Rules, in-leave-queue)
 
   in-end-waits : (l : List ℕ) (code : Code) (p : Effect) → Tasks S l → In p → In (end-waits l code p)
   unfolding end-waits
@@ -182,9 +185,9 @@ module _ (S : Key → Type 0) where
   for n f h = h
 
   in-effects : EachNumbered InFor effects
-  unfolding EachNumbered effects one-of unknown
+  unfolding EachNumbered effects one-of missing exists
   in-effects =
-      for 0 no-call (λ e v c r a p. absurd (p .step-0))
+      for 0 no-call (λ e v c r a p. absurd (p .step-5))
       then for 1 define-task (λ e v c r a p. search (All, a .task-in tt, a .suspension-in tt))
       then for 2 cre-dtq (λ e v c r a p. search (All, a .queue-in tt))
       then for 3 del-dtq (λ e v c r a p. search (All, a .queue-in tt, r .senders, r .receivers))
@@ -213,7 +216,7 @@ module _ (S : Key → Type 0) where
   -- Beyond the table a number is unknown.
   beyond : (n : ℕ) → length effects ≤ n → InFor n no-call
   unfolding effects unknown
-  beyond n h e v c r a p = let known = from-within 1 call-limit n (T-not-not (within 1 call-limit n) (p .step-0)) in absurd (omega arith)
+  beyond n h e v c r a p = let known = nltb→le call-limit n (p .step-0) in absurd (omega arith)
 
   pub in-effect : (e : Environment) (v : View) (c : Call) → ViewWithin v → Accepted S c → Passes v c → Within NamedIn S (AnswersNoError (c .number)) (effect e v c)
   unfolding effect
@@ -225,9 +228,9 @@ module _ (S : Key → Type 0) where
   Any a = Unit
 
   -- A row that is read because its number is valid, or shows as undefined.
-  in-read-if-valid : (k : Key) (f : Row k → Effect) → (T (valid k) → S k) → ((x : Row k) → NamedIn S k x → Within NamedIn S Any (f x)) → Within NamedIn S Any (read-if-valid k f)
+  in-read-if-valid : {X : Type 0} (P : X → Type 0) (k : Key) (f : Row k → Program Key Row X) → (T (valid k) → S k) → ((x : Row k) → NamedIn S k x → Within NamedIn S P (f x)) → Within NamedIn S P (read-if-valid k f)
   unfolding read-if-valid
-  in-read-if-valid k f own h = in-if NamedIn S Any (valid k) (get k f) (f (nothing k)) (λ t. in-get NamedIn S Any k f (own t) h) (λ t. h (nothing k) (shut k))
+  in-read-if-valid P k f own h = in-if NamedIn S P (valid k) (get k f) (f (nothing k)) (λ t. in-get NamedIn S P k f (own t) h) (λ t. h (nothing k) (shut k))
     where
       shut : (k : Key) → NamedIn S k (nothing k)
       shut (task n) = tt
@@ -236,15 +239,48 @@ module _ (S : Key → Type 0) where
       shut (mailbox n) = (none, none)
       shut (message n) = free-in S 0
 
-  in-read-view : (c : Call) (f : View → Effect) → Each (λ k. T (valid k) → S k) (names c) → ((v : View) → ViewWithin v → Within NamedIn S Any (f v)) → Within NamedIn S Any (read-view c f)
-  unfolding read-view
-  in-read-view c f (both me (both held (both t (both u (both q (both b (both g none))))))) h =
-      in-read-if-valid (task _) _ me λ x1 r1. in-read-if-valid (suspension _) _ held λ x2 r2. in-read-if-valid (task _) _ t λ x3 r3. in-read-if-valid (suspension _) _ u λ x4 r4.
-      in-read-if-valid (queue _) _ q λ x5 r5. in-read-if-valid (mailbox _) _ b λ x6 r6. in-read-if-valid (message _) _ g λ x7 r7.
-      h _ (record { senders = r5 .0; receivers = r5 .1; waiters = r6 .0; messages = r6 .1 })
+  -- The suspension that is read is that of the task named.
+  own-suspension : (c : Call) → (T (valid (suspension (task-named c))) → S (suspension (task-named c))) → T (valid (suspension (suspension-named c))) → S (suspension (suspension-named c))
+  own-suspension c = go (reads-suspension c) (names-task c) (reads-named c)
+    where
+      go : (reads named : Bool) → (T reads → T named) → (T (valid (suspension (cond named (c .object) 0))) → S (suspension (cond named (c .object) 0)))
+          → T (valid (suspension (cond reads (c .object) 0))) → S (suspension (cond reads (c .object) 0))
+      go true true both-read own t = own t
+      go true false both-read own t = absurd (both-read tt)
+      go false named both-read own t = absurd t
+
+  -- The two stages.
+  in-see-caller : (e : Environment) (c : Call) → Each (λ k. T (valid k) → S k) (names c) → Within NamedIn S (λ v. Unit) (see-caller e c)
+  unfolding see-caller
+  in-see-caller e c (both me (both held rest)) = in-read-if-valid _ (task _) _ me λ x r. in-read-if-valid _ (suspension _) _ held λ y s. in-return NamedIn S _ _ tt
+
+  pub record SeenAfter (caller : CallerView) (v : View) : Type 0 where
+    pub within : ViewWithin v
+    pub caller-is : v .caller ≡ caller
+
+  in-see-named : (e : Environment) (c : Call) (caller : CallerView) → Each (λ k. T (valid k) → S k) (names c) → Within NamedIn S (SeenAfter caller) (see-named e c caller)
+  unfolding see-named
+  in-see-named e c caller (both me (both held (both t (both u (both q (both b (both g none))))))) =
+      in-read-if-valid _ (task _) _ t λ x1 r1. in-read-if-valid _ (suspension _) _ (own-suspension c u) λ x2 r2.
+      in-read-if-valid _ (queue _) _ q λ x3 r3. in-read-if-valid _ (mailbox _) _ b λ x4 r4. in-read-if-valid _ (message _) _ g λ x5 r5.
+      in-return NamedIn S _ _ (record { within = record { senders = r3 .0; receivers = r3 .1; waiters = r4 .0; messages = r4 .1 }; caller-is = refl })
+
+  -- What follows where no row of a list applies.
+  in-unless-refused : (rows : List ErrorRow) (p : Effect) → (T (not (some-applies rows)) → Within NamedIn S Any p) → Within NamedIn S Any (unless-refused rows p)
+  unfolding unless-refused
+  in-unless-refused rows p h = in-if NamedIn S Any (some-applies rows) _ p (λ t. in-return NamedIn S Any _ tt) h
+
+  -- A call that passes both lists of rows is accepted.
+  not-refused : (v : View) (c : Call) → T (not (some-applies (rows-to-step-4 (v .caller) c))) → T (not (some-applies (rows-from-step-5 v c))) → T (not (refused v c))
+  unfolding refused error-table
+  not-refused v c t u = rw (applies-append (rows-to-step-4 (v .caller) c) (rows-from-step-5 v c)) (neither (some-applies (rows-to-step-4 (v .caller) c)) _ t u)
 
   pub in-program : (e : Environment) (c : Call) → Each (λ k. T (valid k) → S k) (names c) → Within NamedIn S Any (program e c)
   unfolding program
-  in-program e c own = in-read-view c _ own λ v r. in-if NamedIn S Any (refused true v c) _ _
-      (λ t. in-return NamedIn S Any _ tt)
-      (λ t. within-map NamedIn S (AnswersNoError (c .number)) Any (λ a h. tt) _ (in-effect e v c r (accepted S v c own t) (passes v c t)))
+  in-program e c own =
+      in-run-first NamedIn S _ Any (see-caller e c) _ (in-see-caller e c own) λ caller _.
+      in-unless-refused (rows-to-step-4 caller c) _ λ t.
+      in-run-first NamedIn S (SeenAfter caller) Any (see-named e c caller) _ (in-see-named e c caller own) λ v shown.
+      in-unless-refused (rows-from-step-5 v c) _ λ u.
+      let ok = not-refused v c (subst (λ x. T (not (some-applies (rows-to-step-4 x c)))) (sym (shown .caller-is)) t) u in
+      within-map NamedIn S (AnswersNoError (c .number)) Any (λ a h. tt) _ (in-effect e v c (shown .within) (accepted S v c own ok) (passes v c ok))

@@ -1,20 +1,22 @@
 -- Demand 3: a carrier's part of the state is its rows with whatever stands in its objects at the start; no other carrier's call touches it.
 use mathlib.Core.Path.{_≡_, refl, sym, _∙_, ap, subst}
 use mathlib.Core.Bool.{Bool, true, false, cond}
+use mathlib.Core.Option.{Option, none, some, Option·map, Option·getD}
 use Prim.Native.Nat.{ℕ}
 use native.Mathlib.Omega.{arith}
 use lib.Dec.{T, eqb}
 use Rattle.lists.specs.Lists.{none}
 use Rattle.lists.proofs.Each.{each-map, each-beside}
+use Rattle.lists.specs.Options.{IfSome}
 use Rattle.rows.specs.Program as Program
 use Rattle.rows.proofs.Footprint.{Closed}
 use Rattle.rows.proofs.Owned.{separate-programs}
 use Rattle.rows.proofs.Two.{two-lists, each-list, each-caller, two-of}
 use Rattle.model.specs.Rows.{Key, task, suspension, queue, mailbox, message, same-key, Row, nothing, empty-state}
 use Rattle.model.specs.Calls.{Call}
-use Rattle.model.specs.Waits.{Wait, NoWait, Sending, Receiving, AtMailbox}
+use Rattle.model.specs.Waits.{Wait, WaitQueue, senders-of, receivers-of, waiters-of, object-of, wait-queue, object-named}
 use Rattle.model.specs.Step.{program, step}
-use Rattle.model.specs.Isolation.{WaitsAt, Linked, WaitsIn, QueuedIn, Placed, CallOf, Carrier, owns, Own, Isolation, IsolationFromEmpty, Owners, owner, OwnedBy, IsolationOfMany}
+use Rattle.model.specs.Isolation.{WaitsAt, Linked, QueuedIn, Placed, CallOf, Carrier, owns, Own, Isolation, IsolationFromEmpty, Owners, owner, OwnedBy, IsolationOfMany}
 use Rattle.model.proofs.Choices.{cond-no, cond-both}
 use Rattle.model.proofs.Step.{step-call}
 use Rattle.model.proofs.Footprints.{NamedIn, in-program}
@@ -22,17 +24,14 @@ use Rattle.model.proofs.Footprints.{NamedIn, in-program}
 module _ {I : Type 0} (o : Owners I) where
   -- Whose part a row is in: a waiting task is in that of the owner of the object it waits at, a queued message in that of its mailbox's owner, whoever owns the
   -- task or the message.
-  abbrev waiter : I → Wait → I
-  waiter i NoWait = i
-  waiter i (Sending q end word) = o .queues q
-  waiter i (Receiving q end) = o .queues q
-  waiter i (AtMailbox b end) = o .mailboxes b
+  abbrev waiter : I → Option Key → I
+  waiter i k = Option·getD (Option·map (owner o) k) i
 
   abbrev queued : I → ℕ → I
   queued i b = cond (eqb b 0) i (o .mailboxes b)
 
   unfoldable part : Program.Rows Row → Key → I
-  part m (task n) = waiter (o .tasks n) (m (task n) .wait)
+  part m (task n) = waiter (o .tasks n) (object-named (m (task n) .wait))
   part m (suspension n) = o .tasks n
   part m (queue n) = o .queues n
   part m (mailbox n) = o .mailboxes n
@@ -40,22 +39,19 @@ module _ {I : Type 0} (o : Owners I) where
 
   -- ── A part names nothing outside itself ──
 
-  waiter-at : (i : I) (k : Key) (w : Wait) → WaitsAt k w → waiter i w ≡ owner o k
-  waiter-at i k NoWait e = absurd e
-  waiter-at i k (Sending q end word) e = ap (owner o) e
-  waiter-at i k (Receiving q end) e = ap (owner o) e
-  waiter-at i k (AtMailbox b end) e = ap (owner o) e
+  waiter-at : (i : I) (k : Key) (w : Wait) → WaitsAt k w → waiter i (object-named w) ≡ owner o k
+  waiter-at i k w e = ap (waiter i) e
 
-  waiter-in : (m : Program.Rows Row) (i j : I) (w : Wait) → waiter i w ≡ j → WaitsIn (λ k. part m k ≡ j) w
+  waiter-in : (m : Program.Rows Row) (i j : I) (x : Option WaitQueue) → waiter i (Option·map object-of x) ≡ j → IfSome (λ k. part m k ≡ j) (Option·map object-of x)
   unfolding part
-  waiter-in m i j NoWait e = tt
-  waiter-in m i j (Sending q end word) e = e
-  waiter-in m i j (Receiving q end) e = e
-  waiter-in m i j (AtMailbox b end) e = e
+  waiter-in m i j none e = tt
+  waiter-in m i j (some (senders-of q)) e = e
+  waiter-in m i j (some (receivers-of q)) e = e
+  waiter-in m i j (some (waiters-of b)) e = e
 
   part-closed : (m : Program.Rows Row) → Linked m → (i : I) → Closed NamedIn (λ k. part m k ≡ i) m
   unfolding part QueuedIn
-  part-closed m l i (task n) r = waiter-in m (o .tasks n) i (m (task n) .wait) r
+  part-closed m l i (task n) r = waiter-in m (o .tasks n) i (wait-queue (m (task n) .wait)) r
   part-closed m l i (suspension n) r = tt
   part-closed m l i (queue n) r = (
     each-map (λ t e. waiter-at _ (queue n) (m (task t) .wait) e ∙ r) (l .senders n),
@@ -69,15 +65,13 @@ module _ {I : Type 0} (o : Owners I) where
 
   -- ── An owner's rows are in its part, where it is placed ──
 
-  waiter-own : (i j : I) (w : Wait) → i ≡ j → WaitsIn (OwnedBy o j) w → waiter i w ≡ j
-  waiter-own i j NoWait e h = e
-  waiter-own i j (Sending q end word) e h = h
-  waiter-own i j (Receiving q end) e h = h
-  waiter-own i j (AtMailbox b end) e h = h
+  waiter-own : (i j : I) (x : Option Key) → i ≡ j → IfSome (OwnedBy o j) x → waiter i x ≡ j
+  waiter-own i j none e h = e
+  waiter-own i j (some k) e h = h
 
   part-own : (m : Program.Rows Row) (i : I) → Placed (OwnedBy o i) m → (k : Key) → OwnedBy o i k → part m k ≡ i
   unfolding part QueuedIn
-  part-own m i p (task n) e = waiter-own (o .tasks n) i (m (task n) .wait) e (p .tasks n e)
+  part-own m i p (task n) e = waiter-own (o .tasks n) i (object-named (m (task n) .wait)) e (p .tasks n e)
   part-own m i p (suspension n) e = e
   part-own m i p (queue n) e = e
   part-own m i p (mailbox n) e = e
@@ -129,16 +123,14 @@ of-second false false e = let z : _≡_ {A = ℕ} 0 1 = cc in omega arith
 
 -- Two ways of saying which rows are a carrier's own.
 module _ {S R : Key → Type 0} (into : (k : Key) → S k → R k) where
-  waits-into : (w : Wait) → WaitsIn S w → WaitsIn R w
-  waits-into NoWait h = tt
-  waits-into (Sending q end word) h = into (queue q) h
-  waits-into (Receiving q end) h = into (queue q) h
-  waits-into (AtMailbox b end) h = into (mailbox b) h
+  some-into : (x : Option Key) → IfSome S x → IfSome R x
+  some-into none h = tt
+  some-into (some k) h = into k h
 
   placed-into : ((k : Key) → R k → S k) → (m : Program.Rows Row) → Placed S m → Placed R m
   unfolding QueuedIn
   placed-into back m p = record {
-    tasks = λ t h. waits-into (m (task t) .wait) (p .tasks t (back (task t) h));
+    tasks = λ t h. some-into (object-named (m (task t) .wait)) (p .tasks t (back (task t) h));
     messages = λ g h t. into (mailbox _) (p .messages g (back (message g) h) t);
   }
 

@@ -3,26 +3,26 @@ use mathlib.Core.Path.{_≡_, refl, sym, subst}
 use mathlib.Core.Bool.{Bool, true, false, not, cond}
 use Prim.Native.Nat.{ℕ, _≤_, _<_}
 use native.Mathlib.Omega.{arith}
-use lib.Dec.{T}
+use lib.Dec.{T, nltb→le}
 use lib.ListN.{length}
-use mir.Facts.{T-not-not, yes-and}
+use mir.Facts.{yes-and}
 use Rattle.lists.specs.Lists.{empty, one-of}
 use Rattle.lists.proofs.Positions.{EachNumbered, _then_, at-number}
 use Rattle.rows.specs.Program as Program
-use Rattle.model.specs.Sizes.{call-limit, counter-span, within}
-use Rattle.model.specs.Rows.{Key, task, suspension, queue, mailbox, message, valid, Row, Environment, Effect, no-task, no-queue, no-mailbox, free, has-room}
+use Rattle.model.specs.Sizes.{call-limit, counter-span}
+use Rattle.model.specs.Rows.{Key, task, queue, mailbox, message, valid, Row, Environment, Effect, Model, no-task, no-queue, no-mailbox, free, has-room}
 use Rattle.model.specs.Codes.{E-RLWAI}
 use Rattle.model.specs.Calls.{Call, View, word-of, names-task, names-queue, names-mailbox, names-message, message-of, view-of}
 use Rattle.model.specs.Waits.{End, Never}
-use Rattle.model.specs.Errors.{unknown, exists, task-only, would-wait}
+use Rattle.model.specs.Errors.{unknown, exists, missing, task-only, would-wait}
 use Rattle.model.specs.DataQueues.{wait-to-send, send, wait-to-receive, receive, cre-dtq, del-dtq, snd-dtq, psnd-dtq, tsnd-dtq, fsnd-dtq, rcv-dtq, prcv-dtq, trcv-dtq, ref-dtq}
 use Rattle.model.specs.Mailboxes.{wait-for-message, receive-message, cre-mbx, del-mbx, snd-mbx, rcv-mbx, prcv-mbx, trcv-mbx, ref-mbx}
 use Rattle.model.specs.Tasks.{define-task, rel-wai, sus-tsk, rsm-tsk, look, fetch}
 use Rattle.model.specs.Step.{effects, effect, no-call}
 use Rattle.model.specs.WellFormed.{EndAhead, WellFormedRows}
-use Rattle.model.proofs.Tests.{from-within, neither-left, or-left, only-left}
+use Rattle.model.proofs.Tests.{neither-left, or-left, only-left}
 use Rattle.model.proofs.Choices.{cond-yes}
-use Rattle.model.proofs.Step.{numbered}
+use Rattle.model.proofs.Step.{rows-seen, view-is, numbered}
 use Rattle.model.proofs.Accepted.{Passes, Accepted}
 use Rattle.model.proofs.Checked.{queue-attribute, queue-capacity, mailbox-attribute, mailbox-highest, task-priority, exists-not, exists-already, caller-defined, caller-able, message-priority, message-free, task-waits, something-to-drop, wait-ends}
 use Rattle.model.proofs.After.{After, after-return, Kept}
@@ -38,10 +38,9 @@ Valid k = T (valid k)
 -- The view with the rows that the call names taken from the state.
 abbrev seen : Program.Rows Row → Call → View → View
 seen m c v = record {
-  caller = cond (task-only c) (m (task (c .caller))) (v .caller);
-  caller-suspended = v .caller-suspended;
+  caller = record { row = cond (task-only c) (m (task (c .caller))) (v .caller .row); suspended = v .caller .suspended };
   the-task = cond (names-task c) (m (task (c .object))) (v .the-task);
-  suspended = cond (names-task c) (m (suspension (c .object))) (v .suspended);
+  suspended = v .suspended;
   the-queue = cond (names-queue c) (m (queue (c .object))) (v .the-queue);
   the-mailbox = cond (names-mailbox c) (m (mailbox (c .object))) (v .the-mailbox);
   the-message = cond (names-message c) (m (message (message-of c))) (v .the-message);
@@ -57,17 +56,21 @@ caller-row : {X : Type 0} (x d : X) (b ok : Bool) → (T b → T ok) → cond b 
 caller-row x d true ok h = sym (cond-yes ok x d (h tt))
 caller-row x d false ok h = refl
 
-view-seen : (m : Program.Rows Row) (c : Call) → Accepted Valid c → seen m c (view-of m c) ≡ view-of m c
-unfolding view-of
-view-seen m c a = λ i. record {
-  caller = caller-row (m (task (c .caller))) no-task (task-only c) (valid (task (c .caller))) (a .caller-in) i;
-  caller-suspended = view-of m c .caller-suspended;
+rows-are-seen : (m : Program.Rows Row) (c : Call) → Accepted Valid c → seen m c (rows-seen m c) ≡ rows-seen m c
+rows-are-seen m c a = λ i. record {
+  caller = record {
+    row = caller-row (m (task (c .caller))) no-task (task-only c) (valid (task (c .caller))) (a .caller-in) i;
+    suspended = rows-seen m c .caller .suspended;
+  };
   the-task = named-row (λ n. valid (task n)) (λ n. m (task n)) no-task (names-task c) (c .object) (a .task-in) i;
-  suspended = named-row (λ n. valid (suspension n)) (λ n. m (suspension n)) false (names-task c) (c .object) (a .suspension-in) i;
+  suspended = rows-seen m c .suspended;
   the-queue = named-row (λ n. valid (queue n)) (λ n. m (queue n)) no-queue (names-queue c) (c .object) (a .queue-in) i;
   the-mailbox = named-row (λ n. valid (mailbox n)) (λ n. m (mailbox n)) no-mailbox (names-mailbox c) (c .object) (a .mailbox-in) i;
   the-message = named-row (λ n. valid (message n)) (λ n. m (message n)) free (names-message c) (message-of c) (a .message-in) i;
 }
+
+view-seen : (m : Model) (c : Call) → Accepted Valid c → seen (m .rows) c (view-of m c) ≡ view-of m c
+view-seen m c a = subst (λ v. seen (m .rows) c v ≡ v) (sym (view-is m c)) (rows-are-seen (m .rows) c a)
 
 -- ── Every call, by number ──
 
@@ -85,7 +88,7 @@ module _ (e : Environment) (c : Call) (inside : e .counter < counter-span) {m : 
   -- A call of a task alone has a caller that may wait.
   can-wait : (n : ℕ) (end : End) → Passes (seen m (numbered n c) v) (numbered n c) → T (task-only (numbered n c)) → EndAhead (e .counter) 1 end
       → CanWait (e .counter) (λ t. 1) m (c .caller) end
-  can-wait n end p h ahead = let own = cond-yes (task-only (numbered n c)) (m (task (c .caller))) (v .caller) h in
+  can-wait n end p h ahead = let own = cond-yes (task-only (numbered n c)) (m (task (c .caller))) (v .caller .row) h in
       record { defined = rw own at (caller-defined p h); able = rw own at (caller-able p h); end-ahead = ahead }
 
   -- The calls with and without a tmout differ only in the end of the wait.
@@ -103,9 +106,9 @@ module _ (e : Environment) (c : Call) (inside : e .counter < counter-span) {m : 
   receive-message-kept defined end can = kept-receive-message w (c .object) defined _ (λ n. kept-wait-for-message w (c .object) defined (c .caller) end n (can n))
 
   kept-effects : EachNumbered KeptFor effects
-  unfolding EachNumbered effects one-of unknown exists would-wait
+  unfolding EachNumbered effects one-of exists missing would-wait
   kept-effects =
-      for 0 no-call (λ a p. absurd (p .step-0))
+      for 0 no-call (λ a p. absurd (p .step-5))
       then for 1 define-task (λ a p. kept-define-task w e v c (a .task-in tt) (search (exists-not p tt, neither-left)) (task-priority p tt .0) (task-priority p tt .1))
       then for 2 cre-dtq (λ a p. kept-create-queue w e v c (a .queue-in tt) (search (exists-not p tt, neither-left)) (queue-attribute p tt) (queue-capacity p tt))
       then for 3 del-dtq (λ a p. kept-delete-queue w e (seen m (numbered 3 c) v) c refl (search (exists-already p tt, only-left)))
@@ -135,12 +138,12 @@ module _ (e : Environment) (c : Call) (inside : e .counter < counter-span) {m : 
   -- Beyond the table a number is unknown.
   beyond : (n : ℕ) → length effects ≤ n → KeptFor n no-call
   unfolding effects unknown
-  beyond n h a p = let known = from-within 1 call-limit n (T-not-not (within 1 call-limit n) (p .step-0)) in absurd (omega arith)
+  beyond n h a p = let known = nltb→le call-limit n (p .step-0) in absurd (omega arith)
 
   kept-effect : KeptFor (c .number) effect
   unfolding effect
   kept-effect = at-number KeptFor no-call effects beyond kept-effects (c .number)
 
-pub kept-accepted : (e : Environment) (c : Call) → e .counter < counter-span → {m : Program.Rows Row} → WellFormedRows (e .counter) (λ t. 1) m
-    → Accepted Valid c → Passes (view-of m c) c → After (Kept (e .counter) (λ t. 1)) (effect e (view-of m c) c) m
-kept-accepted e c inside {m} w a p = subst (λ v. Passes v c → After (Kept (e .counter) (λ t. 1)) (effect e v c) m) (view-seen m c a) (kept-effect e c inside w (view-of m c) a) p
+pub kept-accepted : (m : Model) (c : Call) → m .environment .counter < counter-span → WellFormedRows (m .environment .counter) (λ t. 1) (m .rows)
+    → Accepted Valid c → Passes (view-of m c) c → After (Kept (m .environment .counter) (λ t. 1)) (effect (m .environment) (view-of m c) c) (m .rows)
+kept-accepted m c inside w a p = subst (λ v. Passes v c → After (Kept (m .environment .counter) (λ t. 1)) (effect (m .environment) v c) (m .rows)) (view-seen m c a) (kept-effect (m .environment) c inside w (view-of m c) a) p

@@ -15,10 +15,10 @@ use Rattle.model.specs.Sizes.{priority-limit}
 use Rattle.model.specs.Rows.{task, mailbox, message, same-key, valid, Row, MailboxRow, Environment, Effect, waiters-by-priority, messages-by-priority, no-mailbox}
 use Rattle.model.specs.Codes.{E-OK, E-DLT}
 use Rattle.model.specs.Calls.{Call, View, highest-of}
-use Rattle.model.specs.Waits.{End, AtMailbox}
-use Rattle.model.specs.WaitQueues.{place, release}
+use Rattle.model.specs.Waits.{End, AtMailbox, waiters-of}
+use Rattle.model.specs.WaitQueues.{place, release, set-standing}
 use Rattle.model.specs.Mailboxes.{deliver-message, queue-message, take-message, wait-for-message, send-message, receive-message, cre-mbx, del-mbx}
-use Rattle.model.specs.WellFormed.{waiters-of, WellFormedRows, set-standing}
+use Rattle.model.specs.WellFormed.{WellFormedRows}
 use Rattle.model.proofs.Choices.{cond-yes}
 use Rattle.model.proofs.WaitMoves.{defined-mailbox, leave-head, join}
 use Rattle.model.proofs.RowMoves.{with-message-rows, freed}

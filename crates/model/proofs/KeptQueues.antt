@@ -17,10 +17,10 @@ use Rattle.model.specs.Sizes.{capacity-limit}
 use Rattle.model.specs.Rows.{task, queue, same-key, valid, Row, QueueRow, Environment, Effect, senders-by-priority, has-room, no-queue, with-words, with-senders, with-receivers}
 use Rattle.model.specs.Codes.{E-OK, E-DLT}
 use Rattle.model.specs.Calls.{Call, View, capacity-of}
-use Rattle.model.specs.Waits.{End, NoWait, Sending, Receiving, held-word, ended}
-use Rattle.model.specs.WaitQueues.{place, release}
+use Rattle.model.specs.Waits.{End, NoWait, Sending, Receiving, held-word, ended, senders-of, receivers-of}
+use Rattle.model.specs.WaitQueues.{place, release, set-standing}
 use Rattle.model.specs.DataQueues.{deliver, store, replace-oldest, wait-to-send, send, take-oldest, take-oldest-and-refill, take-from-sender, wait-to-receive, receive, cre-dtq, del-dtq}
-use Rattle.model.specs.WellFormed.{senders-of, receivers-of, EndAhead, QueueWellFormed, WellFormedRows, set-standing}
+use Rattle.model.specs.WellFormed.{EndAhead, QueueWellFormed, WellFormedRows}
 use Rattle.model.proofs.Choices.{cond-yes}
 use Rattle.model.proofs.Standing.{put-twice}
 use Rattle.model.proofs.WaitMoves.{defined-queue, leave-head, join}

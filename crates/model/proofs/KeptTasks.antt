@@ -11,10 +11,10 @@ use Rattle.model.specs.Sizes.{priority-limit}
 use Rattle.model.specs.Rows.{task, same-key, valid, Row, TaskRow, Environment, Effect}
 use Rattle.model.specs.Codes.{Code}
 use Rattle.model.specs.Calls.{Call, View, task-priority-of}
-use Rattle.model.specs.Waits.{Wait, NoWait, Sending, Receiving, AtMailbox, able, ended}
-use Rattle.model.specs.WaitQueues.{end-wait}
+use Rattle.model.specs.Waits.{Wait, NoWait, Sending, Receiving, AtMailbox, able, ended, WaitQueue, senders-of, receivers-of, waiters-of, wait-queue}
+use Rattle.model.specs.WaitQueues.{end-wait, standing-in, set-standing}
 use Rattle.model.specs.Tasks.{define-task, sus-tsk, rsm-tsk}
-use Rattle.model.specs.WellFormed.{WaitQueue, senders-of, receivers-of, waiters-of, standing-in, wait-queue, ends-a-wait, WellFormedRows, set-standing}
+use Rattle.model.specs.WellFormed.{ends-a-wait, WellFormedRows}
 use Rattle.model.specs.declared.Answer.{Answer}
 use Rattle.model.proofs.WaitMoves.{leave}
 use Rattle.model.proofs.RowMoves.{put-task, put-suspension}

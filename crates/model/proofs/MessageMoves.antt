@@ -18,7 +18,8 @@ use Rattle.rows.specs.Program.{update}
 use Rattle.rows.proofs.Update.{update-same, update-other, update-cases}
 use Rattle.model.specs.Sizes.{mailbox-limit, priority-limit}
 use Rattle.model.specs.Rows.{Key, task, suspension, queue, mailbox, message, same-key, valid, Row, MailboxRow, MessageRow, messages-by-priority, free, with-messages}
-use Rattle.model.specs.WellFormed.{waiters-of, named-mailbox, MailboxWellFormed, WellFormedRows}
+use Rattle.model.specs.WellFormed.{named-mailbox, MailboxWellFormed, WellFormedRows}
+use Rattle.model.specs.Waits.{waiters-of}
 use Rattle.model.proofs.Tests.{from-within}
 use Rattle.model.proofs.Choices.{cond-no, cond-both, cond-yes, cond-member, cond-no-member}
 use Rattle.model.proofs.Standing.{changed, message-cases}

@@ -13,8 +13,9 @@ use Rattle.rows.specs.Program as Program
 use Rattle.rows.specs.Program.{update}
 use Rattle.model.specs.Sizes.{priority-limit}
 use Rattle.model.specs.Rows.{Key, task, suspension, queue, mailbox, message, same-key, valid, Row, TaskRow, QueueRow, MailboxRow, MessageRow, senders-by-priority, waiters-by-priority, messages-by-priority, free, nothing}
-use Rattle.model.specs.Waits.{NoWait}
-use Rattle.model.specs.WellFormed.{WaitQueue, senders-of, receivers-of, waiters-of, standing-in, by-priority, wait-queue, named-mailbox, TaskWellFormed, QueueWellFormed, MailboxWellFormed, WellFormedRows}
+use Rattle.model.specs.Waits.{NoWait, WaitQueue, senders-of, receivers-of, waiters-of, wait-queue}
+use Rattle.model.specs.WellFormed.{named-mailbox, TaskWellFormed, QueueWellFormed, MailboxWellFormed, WellFormedRows}
+use Rattle.model.specs.WaitQueues.{standing-in, by-priority}
 use Rattle.model.proofs.Standing.{task-cases, suspension-cases, queue-cases, mailbox-cases, put-in-range}
 
 -- The rows with these messages.

@@ -11,7 +11,8 @@ use Rattle.rows.specs.Program as Program
 use Rattle.rows.specs.Program.{update}
 use Rattle.rows.proofs.Update.{update-same, update-other, update-cases}
 use Rattle.model.specs.Rows.{Key, task, suspension, queue, mailbox, message, same-key, valid, Row, TaskRow, QueueRow, MailboxRow, MessageRow, nothing, with-senders, with-receivers, with-waiters}
-use Rattle.model.specs.WellFormed.{WaitQueue, senders-of, receivers-of, waiters-of, WaitQueue-discrete, standing-in, set-standing}
+use Rattle.model.specs.Waits.{WaitQueue, senders-of, receivers-of, waiters-of, WaitQueue-discrete}
+use Rattle.model.specs.WaitQueues.{standing-in, set-standing}
 
 -- Decides whether two wait queues are the same.
 unfoldable pub same-queue : Discrete WaitQueue

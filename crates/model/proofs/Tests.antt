@@ -14,6 +14,10 @@ pub neither-right : (a b : Bool) → T (not (a || b)) → T (not b)
 neither-right true b t = absurd t
 neither-right false b t = t
 
+pub neither : (a b : Bool) → T (not a) → T (not b) → T (not (a || b))
+neither true b t u = t
+neither false b t u = u
+
 -- Two tests that don't pass together: where the one passes, the other doesn't.
 pub not-both : (a b : Bool) → T (not (a && b)) → T a → T (not b)
 not-both true b t u = t
@@ -27,6 +31,10 @@ not-both-left false b t u = tt
 pub or-left : (a b : Bool) → T a → T (a || b)
 or-left true b t = tt
 or-left false b t = absurd t
+
+pub or-right : (a b : Bool) → T b → T (a || b)
+or-right true b t = tt
+or-right false b t = t
 
 -- A number within two limits, as a test and as two facts.
 pub from-within : (low high n : ℕ) → T (within low high n) → (low ≤ n) × (n ≤ high)

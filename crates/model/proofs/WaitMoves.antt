@@ -3,10 +3,11 @@ use mathlib.Core.Path.{_≡_, refl, sym, _∙_, ap, subst, fun-ext}
 use mathlib.Core.Bool.{Bool, true, false, not}
 use mathlib.Core.List.{List, [], map, tail, headD}
 use mathlib.Core.Logic.{_≢_}
-use mathlib.Core.Option.{some, Option·none-ne-some, Option·some-injective}
+use mathlib.Core.Option.{Option, some, Option·map, Option·none-ne-some}
 use Prim.Native.Nat.{ℕ, _≤_}
 use lib.Dec.{T, T-not}
 use Rattle.lists.specs.Lists.{empty, insert-at, ahead, without, passed, InOrder, StandsWhereNamed}
+use Rattle.lists.specs.Options.{IfSome}
 use Rattle.lists.proofs.Changes.{map-insert, map-remove}
 use Rattle.lists.proofs.Order.{in-order-insert, in-order-remove}
 use Rattle.lists.proofs.Stands.{in-head, without-head, without-none, not-empty-before, stands-leave, stands-join}
@@ -16,8 +17,9 @@ use Rattle.rows.proofs.Update.{update-same, update-other, update-cases}
 use Rattle.model.specs.Sizes.{priority-limit}
 use Rattle.model.specs.Rows.{Key, task, suspension, queue, mailbox, message, same-key, valid, Row, TaskRow, nothing, with-senders, with-receivers, with-waiters}
 use Rattle.model.specs.Codes.{Code}
-use Rattle.model.specs.Waits.{Wait, NoWait, Sending, Receiving, AtMailbox, wait-end, starting, ended}
-use Rattle.model.specs.WellFormed.{WaitQueue, senders-of, receivers-of, waiters-of, object-of, standing-in, by-priority, wait-queue, ObjectInRange, ends-a-wait, EndAhead, TaskWellFormed, QueueWellFormed, MailboxWellFormed, WellFormedRows, set-standing}
+use Rattle.model.specs.Waits.{Wait, NoWait, wait-end, starting, ended, WaitQueue, senders-of, receivers-of, waiters-of, object-of, wait-queue}
+use Rattle.model.specs.WellFormed.{ObjectInRange, ends-a-wait, EndAhead, TaskWellFormed, QueueWellFormed, MailboxWellFormed, WellFormedRows}
+use Rattle.model.specs.WaitQueues.{standing-in, by-priority, set-standing}
 use Rattle.model.proofs.Standing.{same-queue, changed, task-cases, put-in-range, with-standing, set-standing-is}
 
 -- The object is well-formed with this list as the wait queue.
@@ -109,10 +111,7 @@ module _ (m : Program.Rows Row) (c : WaitQueue) (l : List ℕ) (t : ℕ) (row : 
 
 -- The object of the wait queue that a wait names is the wait's.
 named-object : (x : Wait) (c : WaitQueue) → wait-queue x ≡ some c → ObjectInRange x ≡ T (valid (object-of c))
-named-object NoWait c e = absurd (Option·none-ne-some c e)
-named-object (Sending q end word) c e = ap (λ d. T (valid (object-of d))) (Option·some-injective (senders-of q) c e)
-named-object (Receiving q end) c e = ap (λ d. T (valid (object-of d))) (Option·some-injective (receivers-of q) c e)
-named-object (AtMailbox b end) c e = ap (λ d. T (valid (object-of d))) (Option·some-injective (waiters-of b) c e)
+named-object x c e = ap (λ (y : Option WaitQueue). IfSome (λ k. T (valid k)) (Option·map object-of y)) e
 
 -- Priorities stay in order.
 module _ (f : ℕ → ℕ) {most : ℕ} (t : ℕ) (l : List ℕ) where

@@ -2,7 +2,7 @@
 use mathlib.Core.Path.{_≡_, refl, ap, subst}
 use mathlib.Core.Bool.{Bool, true, false, not, cond}
 use mathlib.Core.List.{[], map}
-use mathlib.Core.Option.{some, none, Option·none-ne-some, Option·some-injective}
+use mathlib.Core.Option.{some, none, Option·map, Option·none-ne-some, Option·some-injective}
 use Prim.Native.Nat.{ℕ}
 use native.Mathlib.Omega.{arith}
 use lib.Dec.{T, eqb}
@@ -13,11 +13,12 @@ use Rattle.rows.specs.Program.{run, step-of}
 use Rattle.model.specs.Rows.{task, message, same-key, MessageRow, no-task, nothing as no-rows, Model}
 use Rattle.model.specs.Sizes.{priority-limit}
 use Rattle.model.specs.Calls.{Call, view-of}
-use Rattle.model.specs.Waits.{Wait, NoWait, Sending, Receiving, AtMailbox}
+use Rattle.model.specs.Waits.{Wait, WaitQueue, senders-of, receivers-of, waiters-of, object-of, wait-queue}
 use Rattle.model.specs.Errors.{refused}
 use Rattle.model.specs.Step.{step, program}
 use Rattle.model.specs.Isolation.{WaitsAt, QueuedAt, WellFormedLinked}
-use Rattle.model.specs.WellFormed.{WaitQueue, senders-of, receivers-of, waiters-of, object-of, standing-in, by-priority, wait-queue, named-mailbox, WellFormedRows, WellFormed, KeptWellFormed, EmptyWellFormed}
+use Rattle.model.specs.WellFormed.{named-mailbox, WellFormedRows, WellFormed, KeptWellFormed, EmptyWellFormed}
+use Rattle.model.specs.WaitQueues.{standing-in, by-priority}
 use Rattle.model.proofs.Step.{step-tick, step-call, run-refused, run-accepted}
 use Rattle.model.proofs.Accepted.{passes, accepted}
 use Rattle.model.proofs.KeptCalls.{Valid, kept-accepted}
@@ -27,14 +28,14 @@ use Rattle.model.proofs.KeptTick.{kept-tick}
 
 -- A call's program leaves well-formed rows.
 kept-program : (m : Model) (c : Call) → WellFormed m → WellFormedRows (m .environment .counter) (λ t. 1) (run same-key (program (m .environment) c) (m .rows) .state)
-kept-program m c w = go (refused true (view-of (m .rows) c) c) (λ r. r) (λ r. r)
+kept-program m c w = go (refused (view-of m c) c) (λ r. r) (λ r. r)
   where
-    go : (b : Bool) → (T b → T (refused true (view-of (m .rows) c) c)) → (T (not b) → T (not (refused true (view-of (m .rows) c) c)))
+    go : (b : Bool) → (T b → T (refused (view-of m c) c)) → (T (not b) → T (not (refused (view-of m c) c)))
         → WellFormedRows (m .environment .counter) (λ t. 1) (run same-key (program (m .environment) c) (m .rows) .state)
-    go true yes-case no-case = rw (run-refused (m .environment) c (m .rows) (yes-case tt)) (w .rows)
+    go true yes-case no-case = rw (run-refused m c (yes-case tt)) (w .rows)
     go false yes-case no-case = let ok = no-case tt in
-        rw (run-accepted (m .environment) c (m .rows) ok)
-        (kept-accepted (m .environment) c (w .counter-in-range) (w .rows) (accepted Valid (view-of (m .rows) c) c (each-of-all (λ k t. t) _) ok) (passes (view-of (m .rows) c) c ok) .holds)
+        rw (run-accepted m c ok)
+        (kept-accepted m c (w .counter-in-range) (w .rows) (accepted Valid (view-of m c) c (each-of-all (λ k t. t) _) ok) (passes (view-of m c) c ok) .holds)
 
 pub kept-well-formed : KeptWellFormed
 unfolding step-of
@@ -83,10 +84,7 @@ empty-well-formed counter inside = record {
 -- ── Linked ──
 
 waits-at : (x : Wait) (c : WaitQueue) → wait-queue x ≡ some c → WaitsAt (object-of c) x
-waits-at NoWait c e = absurd (Option·none-ne-some c e)
-waits-at (Sending q end word) c e = ap object-of (Option·some-injective (senders-of q) c e)
-waits-at (Receiving q end) c e = ap object-of (Option·some-injective (receivers-of q) c e)
-waits-at (AtMailbox b end) c e = ap object-of (Option·some-injective (waiters-of b) c e)
+waits-at x c e = ap (Option·map object-of) e
 
 queued-at : (x : MessageRow) (b : ℕ) → named-mailbox x ≡ some b → QueuedAt b x
 queued-at x b = go (eqb (x .queued-in) 0) (λ n. n)

@@ -1,14 +1,16 @@
--- Document 01, "The calls, by number": what each call names, and what of the state it then has in view.
+-- Document 01, "The calls, by number": which call a number is, what each call names, and what of the state it then has in view.
 use mathlib.Core.Bool.{Bool, cond}
 use mathlib.Core.List.{List, [], _∷_}
 use Prim.Native.Nat.{ℕ}
 use lib.Dec.{eqb}
 use Rattle.lists.specs.Lists.{one-of}
 use Rattle.rows.specs.Program as Program
-use Rattle.rows.specs.Program.{get, if_then_else_, _>>=_}
+use Rattle.rows.specs.Program.{Program, return, get, if_then_else_, run, _>>=_}
 use Rattle.model.specs.Sizes.{within}
-use Rattle.model.specs.Rows.{Key, task, suspension, queue, mailbox, message, valid, Row, TaskRow, QueueRow, MailboxRow, MessageRow, Effect, nothing}
+use Rattle.model.specs.Rows.{Key, task, suspension, queue, mailbox, message, same-key, valid, Row, TaskRow, QueueRow, MailboxRow, MessageRow, Environment, Model, nothing}
 pub use Rattle.model.specs.declared.Call.{Call}
+
+-- ── Which call it is ──
 
 -- The call's number is one of these.
 abbrev pub calls : Call → List ℕ → Bool
@@ -27,14 +29,62 @@ names-mailbox c = within 12 18 (c .number)
 abbrev pub names-message : Call → Bool
 names-message c = eqb (c .number) 14
 
--- The calls that make a task or an object, and the calls with a tmout.
+-- The calls that make a task or an object: all three, and each.
 abbrev pub creates : Call → Bool
 creates c = calls c (1 ∷ 2 ∷ 12 ∷ [])
+
+abbrev pub defines-task : Call → Bool
+defines-task c = eqb (c .number) 1
+
+abbrev pub creates-queue : Call → Bool
+creates-queue c = eqb (c .number) 2
+
+abbrev pub creates-mailbox : Call → Bool
+creates-mailbox c = eqb (c .number) 12
+
+-- Sends to a data queue: snd, psnd and tsnd, which have to wait for room, and fsnd, the forced send.
+abbrev pub sends-for-room : Call → Bool
+sends-for-room c = within 4 6 (c .number)
+
+abbrev pub sends-forced : Call → Bool
+sends-forced c = eqb (c .number) 7
+
+-- Receives from a data queue, and from a mailbox.
+abbrev pub receives-word : Call → Bool
+receives-word c = within 8 10 (c .number)
+
+abbrev pub receives-message : Call → Bool
+receives-message c = within 15 17 (c .number)
+
+-- Of these three kinds the calls that may wait, those that poll, and those with a tmout.
+abbrev pub may-wait : Call → Bool
+may-wait c = calls c (4 ∷ 6 ∷ 8 ∷ 10 ∷ 15 ∷ 17 ∷ [])
+
+abbrev pub polls-by-name : Call → Bool
+polls-by-name c = calls c (5 ∷ 9 ∷ 16 ∷ [])
 
 abbrev pub has-tmout : Call → Bool
 has-tmout c = calls c (6 ∷ 10 ∷ 17 ∷ [])
 
--- The same column: what else the fields `value` and `attribute` hold.
+-- Calls on a task: rel_wai, sus_tsk, rsm_tsk, look and fetch; and those of them to which its suspension matters.
+abbrev pub releases : Call → Bool
+releases c = eqb (c .number) 19
+
+abbrev pub suspends : Call → Bool
+suspends c = eqb (c .number) 20
+
+abbrev pub resumes : Call → Bool
+resumes c = eqb (c .number) 21
+
+abbrev pub fetches : Call → Bool
+fetches c = eqb (c .number) 23
+
+abbrev pub reads-suspension : Call → Bool
+reads-suspension c = calls c (20 ∷ 21 ∷ 22 ∷ [])
+
+-- ── What it names ──
+
+-- The column "Names": what else the fields `value` and `attribute` hold.
 abbrev pub word-of : Call → ℕ
 word-of c = c .value
 
@@ -66,47 +116,58 @@ mailbox-named c = cond (names-mailbox c) (c .object) 0
 abbrev pub message-named : Call → ℕ
 message-named c = cond (names-message c) (message-of c) 0
 
+abbrev pub suspension-named : Call → ℕ
+suspension-named c = cond (reads-suspension c) (c .object) 0
+
 -- All that a call names, its caller first.
 abbrev pub names : Call → List Key
 names c =
     task (c .caller) ∷ suspension (c .caller) ∷ task (task-named c) ∷ suspension (task-named c)
     ∷ queue (queue-named c) ∷ mailbox (mailbox-named c) ∷ message (message-named c) ∷ []
 
--- What a call has in view: the rows that it names. A row whose number isn't valid is never read, and shows as undefined.
+-- ── What of the state a call has in view ──
+
+-- It reads in two stages. Steps 0 to 4 of the error table look at the call and its caller alone; only a call that passes them reads the rows that it names.
+
+pub record CallerView : Type 0 where
+  pub row : TaskRow
+  pub suspended : Bool
+
+-- What isn't named shows as undefined.
 pub record View : Type 0 where
-  pub caller : TaskRow
-  pub caller-suspended : Bool
+  pub caller : CallerView
   pub the-task : TaskRow
   pub suspended : Bool
   pub the-queue : QueueRow
   pub the-mailbox : MailboxRow
   pub the-message : MessageRow
 
+-- A row whose number isn't valid is never read, and shows as undefined too.
 abbrev pub row-if-valid : Program.Rows Row → (k : Key) → Row k
 row-if-valid m k = cond (valid k) (m k) (nothing k)
 
-unfoldable pub view-of : Program.Rows Row → Call → View
-view-of m c = record {
-  caller = row-if-valid m (task (c .caller));
-  caller-suspended = row-if-valid m (suspension (c .caller));
-  the-task = row-if-valid m (task (task-named c));
-  suspended = row-if-valid m (suspension (task-named c));
-  the-queue = row-if-valid m (queue (queue-named c));
-  the-mailbox = row-if-valid m (mailbox (mailbox-named c));
-  the-message = row-if-valid m (message (message-named c));
-}
-
--- The same as a program, so that what a call reads is part of what it does.
-unfoldable pub read-if-valid : (k : Key) → (Row k → Effect) → Effect
+unfoldable pub read-if-valid : {X : Type 0} (k : Key) → (Row k → Program Key Row X) → Program Key Row X
 read-if-valid k rest = if valid k then get k rest else rest (nothing k)
 
-unfoldable pub read-view : Call → (View → Effect) → Effect
-read-view c rest = do
-  caller ← read-if-valid (task (c .caller))
-  caller-suspended ← read-if-valid (suspension (c .caller))
+-- The first stage. (The environment is handed in because owners, which document 02's item 7 brings, will stand in it.)
+unfoldable pub see-caller : Environment → Call → Program Key Row CallerView
+see-caller e c = do
+  row ← read-if-valid (task (c .caller))
+  suspended ← read-if-valid (suspension (c .caller))
+  return (record { row = row; suspended = suspended })
+
+-- The second. A named task's suspension is read only by the calls to which it matters.
+unfoldable pub see-named : Environment → Call → CallerView → Program Key Row View
+see-named e c caller = do
   the-task ← read-if-valid (task (task-named c))
-  suspended ← read-if-valid (suspension (task-named c))
+  suspended ← read-if-valid (suspension (suspension-named c))
   the-queue ← read-if-valid (queue (queue-named c))
   the-mailbox ← read-if-valid (mailbox (mailbox-named c))
   the-message ← read-if-valid (message (message-named c))
-  rest (record { caller = caller; caller-suspended = caller-suspended; the-task = the-task; suspended = suspended; the-queue = the-queue; the-mailbox = the-mailbox; the-message = the-message })
+  return (record { caller = caller; the-task = the-task; suspended = suspended; the-queue = the-queue; the-mailbox = the-mailbox; the-message = the-message })
+
+-- Both stages: what the programs above read in this state.
+unfoldable pub view-of : Model → Call → View
+view-of m c =
+    let caller = run same-key (see-caller (m .environment) c) (m .rows) .answer in
+    run same-key (see-named (m .environment) c caller) (m .rows) .answer

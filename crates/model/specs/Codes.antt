@@ -1,6 +1,9 @@
 -- Document 01, "Error numbers and their order": the codes, and what an answer is.
+use mathlib.Core.Bool.{Bool, false, _||_}
+use mathlib.Core.List.{List, [], _∷_}
 use Prim.Native.Nat.{ℕ}
-use lib.IntN.{ℤ, pos, negℤ}
+use lib.Dec.{eqb}
+use lib.IntN.{ℤ, pos, negℤ, natAbs}
 use Rattle.rows.specs.Program.{return}
 use Rattle.model.specs.Rows.{Effect}
 use Rattle.model.specs.declared.Answer.{Answer}
@@ -26,6 +29,11 @@ number E-QOVR = minus 43
 number E-RLWAI = minus 49
 number E-TMOUT = minus 50
 number E-DLT = minus 51
+
+-- The code is one of these. Codes are compared by their numbers, of which no two are the same but for the sign.
+abbrev pub code-in : Code → List Code → Bool
+code-in code [] = false
+code-in code (x ∷ xs) = eqb (natAbs (number code)) (natAbs (number x)) || code-in code xs
 
 -- An answer is finished, kind 0, with a code, or waits, kind 1, with a place (document 02, item 3 has the kinds' numbers).
 abbrev pub kind : Outcome → ℕ

@@ -89,10 +89,10 @@ module _ (q : ℕ) (x : QueueRow) where
 module _ (e : Environment) (v : View) (c : Call) where
   -- The calls with and without a tmout differ only in the end of the wait.
   abbrev send-until : End → Effect
-  send-until end = send (c .object) (v .the-queue) (word-of c) (wait-to-send (c .object) (v .the-queue) (c .caller) (v .caller) (word-of c) end)
+  send-until end = send (c .object) (v .the-queue) (word-of c) (wait-to-send (c .object) (v .the-queue) (c .caller) (v .caller .row) (word-of c) end)
 
   abbrev receive-until : End → Effect
-  receive-until end = receive (c .object) (v .the-queue) (wait-to-receive (c .object) (v .the-queue) (c .caller) (v .caller) end)
+  receive-until end = receive (c .object) (v .the-queue) (wait-to-receive (c .object) (v .the-queue) (c .caller) (v .caller .row) end)
 
   -- 2
   abbrev pub cre-dtq : Effect

@@ -1,31 +1,37 @@
 -- Document 01, "Error numbers and their order": the table, row by row, and what a refusal is.
 use mathlib.Core.Bool.{Bool, false, not, _&&_, _||_, cond}
-use mathlib.Core.List.{List, [], _∷_}
+use mathlib.Core.List.{List, [], _∷_, _++_}
 use lib.Dec.{eqb, ltb}
 use lib.IntN.{ℤ, pos, negsuc}
 use lib.Signed.{ltZ}
 use Rattle.lists.specs.Lists.{empty}
 use Rattle.model.specs.Sizes.{call-limit, task-limit, capacity-limit, priority-limit, tmout-limit, within}
-use Rattle.model.specs.Rows.{task, queue, mailbox, message, valid, has-room, messages-by-priority}
+use Rattle.rows.specs.Program.{if_then_else_}
+use Rattle.model.specs.Rows.{task, queue, mailbox, message, valid, has-room, messages-by-priority, Effect}
 use Rattle.model.specs.Waits.{able}
-use Rattle.model.specs.Codes.{Code, E-OK, E-SYS, E-PAR, E-ID, E-CTX, E-ILUSE, E-OBJ, E-NOEXS, E-QOVR, E-TMOUT}
-use Rattle.model.specs.Calls.{Call, calls, creates, has-tmout, names-task, names-queue, names-mailbox, names-message, message-of, capacity-of, task-priority-of, highest-of, message-priority-of, View}
+use Rattle.model.specs.Codes.{Code, E-OK, E-SYS, E-PAR, E-ID, E-CTX, E-ILUSE, E-OBJ, E-NOEXS, E-QOVR, E-TMOUT, minus, refuse}
+use Rattle.model.specs.Calls.{Call, calls, creates, defines-task, creates-queue, creates-mailbox, sends-for-room, sends-forced, receives-word, receives-message, may-wait, polls-by-name, has-tmout, releases, suspends, resumes, fetches, names-task, names-queue, names-mailbox, names-message, message-of, capacity-of, task-priority-of, highest-of, message-priority-of, CallerView, View}
 
 -- ── Step 0 ──
 
--- Number 0 is the tick, which goes past this table (`step`); it comes here only in a table of calls (document 02, item 2), where it is unknown too.
+-- A call made by itself. Number 0 is the tick, which goes past this table (`step`).
 unfoldable pub unknown : Call → Bool
-unknown c = not (within 1 call-limit (c .number))
+unknown c = ltb call-limit (c .number)
+
+-- A record in a table of calls (document 02, item 2): there is no tick there.
+unfoldable pub unknown-in-table : Call → Bool
+unknown-in-table c = eqb (c .number) 0 || unknown c
 
 -- ── Step 1 ──
 
-unfoldable pub caller-cannot-call : View → Call → Bool
-caller-cannot-call v c =
+-- "State not sound" is asked of the record, before this table (crate record, Step.antt: `Stepped`): rows can't be unsound. Then:
+unfoldable pub caller-cannot-call : CallerView → Call → Bool
+caller-cannot-call caller c =
     not (eqb (c .caller) 0)
     && (ltb task-limit (c .caller)
-    || not (v .caller .defined)
-    || not (able (v .caller .wait))
-    || v .caller-suspended)
+    || not (caller .row .defined)
+    || not (able (caller .row .wait))
+    || caller .suspended)
 
 -- ── Step 2 ──
 
@@ -41,10 +47,10 @@ called-by-handler c = eqb (c .caller) 0 && task-only c
 
 -- The last case of step 2: only a task can name itself.
 unfoldable pub suspends-itself : Call → Bool
-suspends-itself c = eqb (c .number) 20 && eqb (c .object) (c .caller) && not (eqb (c .caller) 0)
+suspends-itself c = suspends c && eqb (c .object) (c .caller) && not (eqb (c .caller) 0)
 
 unfoldable pub called-while-disabled : Call → Bool
-called-while-disabled c = c .disabled && (calls c (4 ∷ 6 ∷ 8 ∷ 10 ∷ 15 ∷ 17 ∷ []) || suspends-itself c)
+called-while-disabled c = c .disabled && (may-wait c || suspends-itself c)
 
 -- ── Step 3 ──
 
@@ -58,22 +64,22 @@ number-outside c =
 -- ── Step 4 ──
 
 unfoldable pub tmout-outside : Call → Bool
-tmout-outside c = has-tmout c && (ltZ (c .tmout) (negsuc 0) || ltZ (pos tmout-limit) (c .tmout))
+tmout-outside c = has-tmout c && (ltZ (c .tmout) (minus 1) || ltZ (pos tmout-limit) (c .tmout))
 
 unfoldable pub attribute-outside : Call → Bool
-attribute-outside c = eqb (c .number) 2 && not (within 0 1 (c .attribute)) || eqb (c .number) 12 && not (within 0 3 (c .attribute))
+attribute-outside c = creates-queue c && not (within 0 1 (c .attribute)) || creates-mailbox c && not (within 0 3 (c .attribute))
 
 unfoldable pub capacity-outside : Call → Bool
-capacity-outside c = eqb (c .number) 2 && ltb capacity-limit (capacity-of c)
+capacity-outside c = creates-queue c && ltb capacity-limit (capacity-of c)
 
 unfoldable pub task-priority-outside : Call → Bool
-task-priority-outside c = eqb (c .number) 1 && not (within 1 priority-limit (task-priority-of c))
+task-priority-outside c = defines-task c && not (within 1 priority-limit (task-priority-of c))
 
 unfoldable pub message-outside : Call → Bool
 message-outside c = names-message c && not (valid (message (message-of c)))
 
 unfoldable pub highest-outside : Call → Bool
-highest-outside c = eqb (c .number) 12 && messages-by-priority (c .attribute) && not (within 1 priority-limit (highest-of c))
+highest-outside c = creates-mailbox c && messages-by-priority (c .attribute) && not (within 1 priority-limit (highest-of c))
 
 -- ── Step 5 ──
 
@@ -98,16 +104,16 @@ unfoldable pub wrong-state : View → Call → Bool
 wrong-state v c =
     creates c && exists v c  -- already exists
     || names-message c && not (eqb (v .the-message .queued-in) 0)  -- already queued in some mailbox
-    || eqb (c .number) 19 && able (v .the-task .wait)  -- not waiting
-    || eqb (c .number) 21 && not (v .suspended)  -- not suspended
-    || eqb (c .number) 23 && not (able (v .the-task .wait))  -- waiting
+    || releases c && able (v .the-task .wait)  -- not waiting
+    || resumes c && not (v .suspended)  -- not suspended
+    || fetches c && not (able (v .the-task .wait))  -- waiting
 
 unfoldable pub suspended-already : View → Call → Bool
-suspended-already v c = eqb (c .number) 20 && v .suspended
+suspended-already v c = suspends c && v .suspended
 
 -- Source 004 decides: a waiting receiver is served, whatever the capacity.
 unfoldable pub nothing-to-drop : View → Call → Bool
-nothing-to-drop v c = eqb (c .number) 7 && eqb (v .the-queue .capacity) 0 && empty (v .the-queue .receivers)
+nothing-to-drop v c = sends-forced c && eqb (v .the-queue .capacity) 0 && empty (v .the-queue .receivers)
 
 -- ── Step 7 ──
 
@@ -116,13 +122,13 @@ is-zero (pos n) = eqb n 0
 is-zero (negsuc n) = false
 
 unfoldable pub polls : Call → Bool
-polls c = calls c (5 ∷ 9 ∷ 16 ∷ []) || has-tmout c && is-zero (c .tmout)
+polls c = polls-by-name c || has-tmout c && is-zero (c .tmout)
 
 unfoldable pub would-wait : View → Call → Bool
 would-wait v c =
-    within 4 6 (c .number) && empty (v .the-queue .receivers) && not (has-room (v .the-queue))  -- nobody to give the word to, and no room
-    || within 8 10 (c .number) && empty (v .the-queue .words) && empty (v .the-queue .senders)  -- no word stored, and none to be had
-    || within 15 17 (c .number) && empty (v .the-mailbox .messages)  -- no message queued
+    sends-for-room c && empty (v .the-queue .receivers) && not (has-room (v .the-queue))  -- nobody to give the word to, and no room
+    || receives-word c && empty (v .the-queue .words) && empty (v .the-queue .senders)  -- no word stored, and none to be had
+    || receives-message c && empty (v .the-mailbox .messages)  -- no message queued
 
 -- ── The table ──
 
@@ -134,22 +140,29 @@ infix 66 _when_
 abbrev pub _when_ : Code → Bool → ErrorRow
 code when applies = record { code = code; applies = applies }
 
--- `sound` says whether the record is sound (document 01, "A sound record"): a model, which isn't a record, always passes that row.
-unfoldable pub error-table : Bool → View → Call → List ErrorRow
-error-table sound v c =
+-- Steps 0 to 4: the call and its caller.
+unfoldable pub rows-to-step-4 : CallerView → Call → List ErrorRow
+rows-to-step-4 caller c =
     (E-PAR when unknown c)  -- 0
-    ∷ (E-SYS when not sound)  -- 1
-    ∷ (E-SYS when caller-cannot-call v c)
+    ∷ (E-SYS when caller-cannot-call caller c)  -- 1
     ∷ (E-CTX when (called-while-locked c || called-by-handler c || called-while-disabled c))  -- 2
     ∷ (E-ID when number-outside c)  -- 3
     ∷ (E-PAR when (tmout-outside c || attribute-outside c || capacity-outside c || task-priority-outside c || message-outside c || highest-outside c))  -- 4
-    ∷ (E-NOEXS when missing v c)  -- 5
+    ∷ []
+
+-- Steps 5 to 7: the rows that it names.
+unfoldable pub rows-from-step-5 : View → Call → List ErrorRow
+rows-from-step-5 v c =
+    (E-NOEXS when missing v c)  -- 5
     ∷ (E-PAR when message-priority-outside v c)  -- 6a
     ∷ (E-OBJ when wrong-state v c)  -- 6b
     ∷ (E-QOVR when suspended-already v c)  -- 6c
     ∷ (E-ILUSE when nothing-to-drop v c)  -- 6d
     ∷ (E-TMOUT when (polls c && would-wait v c))  -- 7
     ∷ []
+
+unfoldable pub error-table : View → Call → List ErrorRow
+error-table v c = rows-to-step-4 (v .caller) c ++ rows-from-step-5 v c
 
 -- A call is refused where some row applies, with the code of the first that does. E_OK where none does is never looked at.
 -- (fetch hands out the code of an ended wait, which is no refusal: no row gives it.)
@@ -161,8 +174,12 @@ unfoldable pub first-that-applies : List ErrorRow → Code
 first-that-applies [] = E-OK
 first-that-applies (row ∷ rows) = cond (row .applies) (row .code) (first-that-applies rows)
 
-unfoldable pub refused : Bool → View → Call → Bool
-refused sound v c = some-applies (error-table sound v c)
+unfoldable pub refused : View → Call → Bool
+refused v c = some-applies (error-table v c)
 
-unfoldable pub refusal : Bool → View → Call → Code
-refusal sound v c = first-that-applies (error-table sound v c)
+unfoldable pub refusal : View → Call → Code
+refusal v c = first-that-applies (error-table v c)
+
+-- The first of these rows that applies refuses; where none does, the rest follows.
+unfoldable pub unless-refused : List ErrorRow → Effect → Effect
+unless-refused rows rest = if some-applies rows then refuse (first-that-applies rows) else rest

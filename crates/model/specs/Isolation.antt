@@ -2,25 +2,24 @@
 use mathlib.Core.Path.{_≡_}
 use mathlib.Core.Bool.{Bool, not}
 use mathlib.Core.List.{List, []}
+use mathlib.Core.Option.{some}
 use Prim.Native.Nat.{ℕ}
 use lib.Dec.{T, eqb}
 use Rattle.lists.specs.Lists.{Each}
+use Rattle.lists.specs.Options.{IfSome}
 use Rattle.rows.specs.Program as Program
 use Rattle.rows.specs.Merge.{Separate}
 use Rattle.rows.specs.Merges.{SeparateAll}
 use Rattle.model.specs.Rows.{Key, task, suspension, queue, mailbox, message, valid, Row, MessageRow, Model, empty-state}
 use Rattle.model.specs.Calls.{Call, names}
-use Rattle.model.specs.Waits.{Wait, NoWait, Sending, Receiving, AtMailbox}
+use Rattle.model.specs.Waits.{Wait, object-named}
 use Rattle.model.specs.Step.{step}
 use Rattle.model.specs.WellFormed.{WellFormed}
 
 -- ── What is used of a sound state: whatever stands in an object names that object ──
 
 abbrev pub WaitsAt : Key → Wait → Type 0
-WaitsAt k NoWait = ⊥
-WaitsAt k (Sending q end word) = queue q ≡ k
-WaitsAt k (Receiving q end) = queue q ≡ k
-WaitsAt k (AtMailbox b end) = mailbox b ≡ k
+WaitsAt k w = object-named w ≡ some k
 
 pub record QueuedAt (b : ℕ) (x : MessageRow) : Type 0 where
   pub queued-here : x .queued-in ≡ b
@@ -40,10 +39,7 @@ WellFormedLinked = (m : Model) → WellFormed m → Linked (m .rows)
 
 -- A task waits, and a message is queued, only in objects of S.
 abbrev pub WaitsIn : (Key → Type 0) → Wait → Type 0
-WaitsIn S NoWait = Unit
-WaitsIn S (Sending q end word) = S (queue q)
-WaitsIn S (Receiving q end) = S (queue q)
-WaitsIn S (AtMailbox b end) = S (mailbox b)
+WaitsIn S w = IfSome S (object-named w)
 
 unfoldable pub QueuedIn : (Key → Type 0) → ℕ → Type 0
 QueuedIn S b = T (not (eqb b 0)) → S (mailbox b)
@@ -60,6 +56,7 @@ pub record CallOf (S : Key → Type 0) (c : Call) : Type 0 where
 
 -- ── Two carriers ──
 
+-- "Carrier" is document 01's word, for whoever uploads timetables: here, the numbers of the tasks, data queues, mailboxes and messages that are its own.
 pub record Carrier : Type 0 where
   pub tasks : ℕ → Bool
   pub queues : ℕ → Bool

@@ -63,7 +63,7 @@ module _ (b : ℕ) (x : MailboxRow) where
 
 module _ (e : Environment) (v : View) (c : Call) where
   abbrev receive-until : End → Effect
-  receive-until end = receive-message (c .object) (v .the-mailbox) (wait-for-message (c .object) (v .the-mailbox) (c .caller) (v .caller) end)
+  receive-until end = receive-message (c .object) (v .the-mailbox) (wait-for-message (c .object) (v .the-mailbox) (c .caller) (v .caller .row) end)
 
   -- 12: the highest message priority is kept with attribute 2 or 3 alone.
   abbrev pub cre-mbx : Effect

@@ -6,7 +6,7 @@ use Prim.Native.Nat.{ℕ}
 use lib.Dec.{eqb, ltb}
 use lib.ListN.{length}
 use Rattle.lists.specs.Lists.{one-of}
-use Rattle.rows.specs.Program.{Program, State}
+use Rattle.rows.specs.Program.{Program, Configuration}
 use Rattle.rows.specs.Program as Program
 use Rattle.model.specs.Sizes.{task-limit, queue-limit, mailbox-limit, message-limit, within}
 use Rattle.model.specs.declared.Answer.{Answer}
@@ -74,7 +74,7 @@ pub record Environment : Type 0 where
   pub counter : ℕ
 
 abbrev pub Model : Type 0
-Model = State Environment Row
+Model = Configuration Environment Row
 
 -- What a call does to the rows, up to its answer.
 abbrev pub Effect : Type 0

@@ -1,19 +1,19 @@
 -- Document 01, "The calls, by number": a call from its number to its answer; number 0 is the tick.
-use mathlib.Core.Bool.{true, cond}
+use mathlib.Core.Bool.{cond}
 use mathlib.Core.List.{List, [], _∷_}
 use lib.Dec.{eqb}
 use lib.ListN.{getD}
-use Rattle.rows.specs.Program.{Result, if_then_else_, step-of}
+use Rattle.rows.specs.Program.{Result, run-first, step-of, _>>=_, _>>_}
 use Rattle.model.specs.Rows.{same-key, Environment, Model, Effect}
 use Rattle.model.specs.Codes.{E-PAR, refuse}
-use Rattle.model.specs.Calls.{Call, View, read-view}
-use Rattle.model.specs.Errors.{refused, refusal}
+use Rattle.model.specs.Calls.{Call, View, see-caller, see-named}
+use Rattle.model.specs.Errors.{rows-to-step-4, rows-from-step-5, unless-refused}
 use Rattle.model.specs.DataQueues.{cre-dtq, del-dtq, snd-dtq, psnd-dtq, tsnd-dtq, fsnd-dtq, rcv-dtq, prcv-dtq, trcv-dtq, ref-dtq}
 use Rattle.model.specs.Mailboxes.{cre-mbx, del-mbx, snd-mbx, rcv-mbx, prcv-mbx, trcv-mbx, ref-mbx}
 use Rattle.model.specs.Tasks.{define-task, rel-wai, sus-tsk, rsm-tsk, look, fetch, tick}
 use Rattle.model.specs.declared.Answer.{Answer}
 
--- Number 0 is the tick, which has no context; step 0 has refused it as a call, and every number that isn't listed.
+-- Number 0 is the tick, which has no context and never comes here (`step`); of any other number that isn't listed step 0 says that it is unknown.
 abbrev pub no-call : Environment → View → Call → Effect
 no-call e v c = refuse E-PAR
 
@@ -35,9 +35,14 @@ effects =
 unfoldable pub effect : Environment → View → Call → Effect
 effect e v c = getD effects (c .number) no-call e v c
 
--- A call reads what it names, is refused where the error table says so, and else has its effect.
+-- A call looks at its caller and is refused by steps 0 to 4, or it looks at what it names and is refused by steps 5 to 7, or it has its effect.
 unfoldable pub program : Environment → Call → Effect
-program e c = read-view c λ v. if refused true v c then refuse (refusal true v c) else effect e v c
+program e c = do
+  caller ← run-first (see-caller e c)
+  unless-refused (rows-to-step-4 caller c)
+  v ← run-first (see-named e c caller)
+  unless-refused (rows-from-step-5 v c)
+  effect e v c
 
 unfoldable pub call : Model → Call → Result Model Answer
 call m c = step-of same-key program m c

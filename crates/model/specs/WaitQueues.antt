@@ -1,13 +1,47 @@
--- Document 01, "Error numbers and their order" (place) and "Task states and ticks" (how a wait ends): what several calls share.
-use mathlib.Core.Bool.{Bool, cond}
+-- Document 01, "Error numbers and their order" (place) and "Task states and ticks" (how a wait ends): wait queues, and what several calls share.
+use mathlib.Core.Bool.{Bool, false, cond}
 use mathlib.Core.List.{List, [], _∷_}
+use mathlib.Core.Option.{Option, none, some}
 use Prim.Native.Nat.{ℕ}
 use lib.ListN.{length}
 use Rattle.lists.specs.Lists.{without, passed}
-use Rattle.rows.specs.Program.{get, put, get-each, _>>=_, _>>_}
-use Rattle.model.specs.Rows.{task, queue, mailbox, Effect, with-senders, with-receivers, with-waiters}
+use Rattle.rows.specs.Program as Program
+use Rattle.rows.specs.Program.{get, put, get-each, update, _>>=_, _>>_}
+use Rattle.model.specs.Rows.{task, same-key, Row, Effect, senders-by-priority, waiters-by-priority, with-senders, with-receivers, with-waiters}
 use Rattle.model.specs.Codes.{Code}
-use Rattle.model.specs.Waits.{Wait, NoWait, Sending, Receiving, AtMailbox, ended}
+use Rattle.model.specs.Waits.{Wait, ended, WaitQueue, senders-of, receivers-of, waiters-of, object-of, wait-queue}
+
+-- ── A wait queue, as a part of its object's row ──
+
+-- The tasks that stand in it, head first.
+abbrev pub members : (k : WaitQueue) → Row (object-of k) → List ℕ
+members (senders-of q) x = x .senders
+members (receivers-of q) x = x .receivers
+members (waiters-of b) x = x .waiters
+
+-- The row with this list as the wait queue.
+abbrev pub with-members : (k : WaitQueue) → List ℕ → Row (object-of k) → Row (object-of k)
+with-members (senders-of q) l x = with-senders l x
+with-members (receivers-of q) l x = with-receivers l x
+with-members (waiters-of b) l x = with-waiters l x
+
+-- Whether it goes by task priority.
+abbrev pub goes-by-priority : (k : WaitQueue) → Row (object-of k) → Bool
+goes-by-priority (senders-of q) x = senders-by-priority (x .attribute)
+goes-by-priority (receivers-of q) x = false
+goes-by-priority (waiters-of b) x = waiters-by-priority (x .attribute)
+
+-- The same of all rows.
+abbrev pub standing-in : Program.Rows Row → WaitQueue → List ℕ
+standing-in m k = members k (m (object-of k))
+
+abbrev pub by-priority : Program.Rows Row → WaitQueue → Bool
+by-priority m k = goes-by-priority k (m (object-of k))
+
+unfoldable pub set-standing : WaitQueue → List ℕ → Program.Rows Row → Program.Rows Row
+set-standing k l m = update same-key (object-of k) (with-members k l (m (object-of k))) m
+
+-- ── Places ──
 
 -- The priorities of these tasks, in order.
 abbrev pub priorities : List ℕ → (List ℕ → Effect) → Effect
@@ -17,6 +51,8 @@ priorities ts rest = get-each task (λ t x. x .priority) ts rest
 unfoldable pub place : Bool → ℕ → List ℕ → ℕ
 place by-priority priority keys = cond by-priority (passed priority keys) (length keys)
 
+-- ── Waits end ──
+
 -- The wait of a task just taken off the head of its wait queue ends.
 unfoldable pub release : ℕ → Code → ℕ → Effect → Effect
 release t code word rest = do
@@ -25,20 +61,15 @@ release t code word rest = do
   rest
 
 -- The task leaves the wait queue that its wait names. A sender's word goes with it: it stands in the wait alone.
-unfoldable pub take-out : ℕ → Wait → Effect → Effect
-take-out t NoWait rest = rest
-take-out t (Sending q end word) rest = do
-  x ← get (queue q)
-  put (queue q) (with-senders (without t (x .senders)) x)
+unfoldable pub leave-queue : ℕ → Option WaitQueue → Effect → Effect
+leave-queue t none rest = rest
+leave-queue t (some k) rest = do
+  x ← get (object-of k)
+  put (object-of k) (with-members k (without t (members k x)) x)
   rest
-take-out t (Receiving q end) rest = do
-  x ← get (queue q)
-  put (queue q) (with-receivers (without t (x .receivers)) x)
-  rest
-take-out t (AtMailbox b end) rest = do
-  x ← get (mailbox b)
-  put (mailbox b) (with-waiters (without t (x .waiters)) x)
-  rest
+
+abbrev pub take-out : ℕ → Wait → Effect → Effect
+take-out t wait rest = leave-queue t (wait-queue wait) rest
 
 -- A wait is ended by rel_wai, the tick or a delete, at whatever place; the stored word is 0.
 unfoldable pub end-wait : ℕ → Code → Effect → Effect

@@ -1,22 +1,56 @@
 -- Document 01, "Task states and ticks": what a task's record says of its wait.
-use mathlib.Core.Bool.{Bool, true, false}
+use mathlib.Core.Bool.{Bool, false}
+use mathlib.Core.Option.{Option, none, some, Option·map, Option·getD}
 use Prim.Native.Nat.{ℕ, _+_, _%_}
 use lib.Dec.{eqb}
 use lib.IntN.{ℤ, pos, negsuc}
+use Rattle.lists.specs.Options.{absent}
 use Rattle.model.specs.Sizes.{counter-span}
-use Rattle.model.specs.Rows.{TaskRow}
+use Rattle.model.specs.Rows.{Key, queue, mailbox, TaskRow}
 use Rattle.model.specs.Codes.{Code, E-OK}
 pub use Rattle.model.specs.declared.End.{End}
 pub use Rattle.model.specs.declared.End.the-variants.{Never, At}
 pub use Rattle.model.specs.declared.Wait.{Wait}
 pub use Rattle.model.specs.declared.Wait.the-variants.{NoWait, Sending, Receiving, AtMailbox}
 
+-- ── What a wait names ──
+
+-- A wait queue: the senders or the receivers of a data queue, or the waiters of a mailbox.
+pub data WaitQueue : Type 0 where
+  senders-of receivers-of waiters-of : ℕ → WaitQueue
+  deriving Discrete as WaitQueue-discrete
+
+-- The object that it belongs to, and that object's number.
+abbrev pub object-of : WaitQueue → Key
+object-of (senders-of q) = queue q
+object-of (receivers-of q) = queue q
+object-of (waiters-of b) = mailbox b
+
+abbrev pub object-number : WaitQueue → ℕ
+object-number (senders-of q) = q
+object-number (receivers-of q) = q
+object-number (waiters-of b) = b
+
+-- The wait queue of the object and kind that a wait names. All else that is said of what a wait names is read off this.
+abbrev pub wait-queue : Wait → Option WaitQueue
+wait-queue NoWait = none
+wait-queue (Sending q end word) = some (senders-of q)
+wait-queue (Receiving q end) = some (receivers-of q)
+wait-queue (AtMailbox b end) = some (waiters-of b)
+
+-- The object that it names.
+abbrev pub object-named : Wait → Option Key
+object-named w = Option·map object-of (wait-queue w)
+
 -- "Able" is document 01's word: READY and RUNNING aren't told apart. Here: in no wait. Suspension is a row of its own.
 abbrev pub able : Wait → Bool
-able NoWait = true
-able (Sending q end word) = false
-able (Receiving q end) = false
-able (AtMailbox b end) = false
+able w = absent (wait-queue w)
+
+-- The number of the object that the task waits at, as look gives it; 0 for none.
+abbrev pub wait-object : Wait → ℕ
+wait-object w = Option·getD (Option·map object-number (wait-queue w)) 0
+
+-- ── What else belongs to a wait ──
 
 -- The wait's number, as look gives it.
 abbrev pub wait-number : Wait → ℕ
@@ -24,13 +58,6 @@ wait-number NoWait = 0
 wait-number (Sending q end word) = 1
 wait-number (Receiving q end) = 2
 wait-number (AtMailbox b end) = 3
-
--- The number of the object that the task waits at.
-abbrev pub wait-object : Wait → ℕ
-wait-object NoWait = 0
-wait-object (Sending q end word) = q
-wait-object (Receiving q end) = q
-wait-object (AtMailbox b end) = b
 
 -- The word that a sender holds.
 abbrev pub held-word : Wait → ℕ
@@ -44,6 +71,8 @@ wait-end NoWait = Never
 wait-end (Sending q end word) = end
 wait-end (Receiving q end) = end
 wait-end (AtMailbox b end) = end
+
+-- ── A wait starts and ends ──
 
 -- A wait starts with the stored pair cleared.
 abbrev pub starting : Wait → TaskRow → TaskRow

@@ -1,59 +1,22 @@
 -- Document 01, "A sound record": its sentences, over rows. "Well-formed" is our word for what rows can show of a sound record. What the record must be beside that, so that rows can be read
 -- from it (chains that end, rings in range), stands with the record.
 use mathlib.Core.Path.{_≡_}
-use mathlib.Core.Bool.{Bool, true, false, not, cond}
-use mathlib.Core.List.{List, [], map}
+use mathlib.Core.Bool.{Bool, not, cond}
+use mathlib.Core.List.{[], _∷_, map}
 use mathlib.Core.Option.{Option, none, some}
 use Prim.Native.Nat.{ℕ, _+_, _-_, _%_, _<_, _≤_}
 use lib.Dec.{T, eqb}
 use lib.ListN.{length}
 use Rattle.lists.specs.Lists.{empty, InOrder, StandsWhereNamed}
+use Rattle.lists.specs.Options.{IfSome}
 use Rattle.rows.specs.Program as Program
-use Rattle.rows.specs.Program.{update}
 use Rattle.model.specs.Sizes.{capacity-limit, priority-limit, end-limit, counter-span}
-use Rattle.model.specs.Rows.{Key, task, suspension, queue, mailbox, message, same-key, valid, Row, TaskRow, QueueRow, MailboxRow, MessageRow, Model, senders-by-priority, waiters-by-priority, messages-by-priority, nothing, empty-state, with-senders, with-receivers, with-waiters}
-use Rattle.model.specs.Codes.{Code, E-OK, E-SYS, E-PAR, E-ID, E-CTX, E-ILUSE, E-OBJ, E-NOEXS, E-QOVR, E-RLWAI, E-TMOUT, E-DLT}
+use Rattle.model.specs.Rows.{Key, task, suspension, queue, mailbox, message, valid, Row, TaskRow, QueueRow, MailboxRow, MessageRow, Model, messages-by-priority, nothing, empty-state}
+use Rattle.model.specs.Codes.{Code, E-OK, E-RLWAI, E-TMOUT, E-DLT, code-in}
 use Rattle.model.specs.Calls.{Call}
-use Rattle.model.specs.Waits.{Wait, NoWait, Sending, Receiving, AtMailbox, End, Never, At, wait-end}
+use Rattle.model.specs.Waits.{Wait, NoWait, End, Never, At, wait-end, WaitQueue, wait-queue, object-named}
+use Rattle.model.specs.WaitQueues.{standing-in, by-priority}
 use Rattle.model.specs.Step.{step}
-
--- ── Wait queues ──
-
--- The senders or the receivers of a data queue, or the waiters of a mailbox.
-pub data WaitQueue : Type 0 where
-  senders-of receivers-of waiters-of : ℕ → WaitQueue
-  deriving Discrete as WaitQueue-discrete
-
--- The object that it belongs to.
-abbrev pub object-of : WaitQueue → Key
-object-of (senders-of q) = queue q
-object-of (receivers-of q) = queue q
-object-of (waiters-of b) = mailbox b
-
--- The tasks that stand in it, head first.
-abbrev pub standing-in : Program.Rows Row → WaitQueue → List ℕ
-standing-in m (senders-of q) = m (queue q) .senders
-standing-in m (receivers-of q) = m (queue q) .receivers
-standing-in m (waiters-of b) = m (mailbox b) .waiters
-
--- The rows with this list as the wait queue.
-unfoldable pub set-standing : WaitQueue → List ℕ → Program.Rows Row → Program.Rows Row
-set-standing (senders-of q) l m = update same-key (queue q) (with-senders l (m (queue q))) m
-set-standing (receivers-of q) l m = update same-key (queue q) (with-receivers l (m (queue q))) m
-set-standing (waiters-of b) l m = update same-key (mailbox b) (with-waiters l (m (mailbox b))) m
-
--- Whether it goes by task priority.
-abbrev pub by-priority : Program.Rows Row → WaitQueue → Bool
-by-priority m (senders-of q) = senders-by-priority (m (queue q) .attribute)
-by-priority m (receivers-of q) = false
-by-priority m (waiters-of b) = waiters-by-priority (m (mailbox b) .attribute)
-
--- The wait queue of the object and kind that a wait names.
-abbrev pub wait-queue : Wait → Option WaitQueue
-wait-queue NoWait = none
-wait-queue (Sending q end word) = some (senders-of q)
-wait-queue (Receiving q end) = some (receivers-of q)
-wait-queue (AtMailbox b end) = some (waiters-of b)
 
 -- The mailbox that a message's row names.
 abbrev pub named-mailbox : MessageRow → Option ℕ
@@ -63,25 +26,11 @@ named-mailbox x = cond (eqb (x .queued-in) 0) none (some (x .queued-in))
 
 -- The object that a wait names has a valid number ("in range").
 abbrev pub ObjectInRange : Wait → Type 0
-ObjectInRange NoWait = Unit
-ObjectInRange (Sending q end word) = T (valid (queue q))
-ObjectInRange (Receiving q end) = T (valid (queue q))
-ObjectInRange (AtMailbox b end) = T (valid (mailbox b))
+ObjectInRange w = IfSome (λ k. T (valid k)) (object-named w)
 
 -- The codes that may be stored with a task: E_OK, and those of a wait that didn't succeed.
 abbrev pub ends-a-wait : Code → Bool
-ends-a-wait E-OK = true
-ends-a-wait E-SYS = false
-ends-a-wait E-PAR = false
-ends-a-wait E-ID = false
-ends-a-wait E-CTX = false
-ends-a-wait E-ILUSE = false
-ends-a-wait E-OBJ = false
-ends-a-wait E-NOEXS = false
-ends-a-wait E-QOVR = false
-ends-a-wait E-RLWAI = true
-ends-a-wait E-TMOUT = true
-ends-a-wait E-DLT = true
+ends-a-wait code = code-in code (E-OK ∷ E-RLWAI ∷ E-TMOUT ∷ E-DLT ∷ [])
 
 -- How many ticks bring the counter from where it is to this tick.
 abbrev pub ticks-left : ℕ → ℕ → ℕ

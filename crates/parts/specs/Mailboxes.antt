@@ -11,7 +11,8 @@ use Rattle.chain.specs.Table.{key-cells, keys-of}
 use Rattle.chain.specs.Table as chain
 use Rattle.model.specs.Sizes.{task-limit, mailbox-limit, message-limit, priority-limit}
 use Rattle.model.specs.Rows.{MailboxRow, waiters-by-priority, messages-by-priority}
-use Rattle.model.specs.WellFormed.{waiters-of, MailboxWellFormed}
+use Rattle.model.specs.WellFormed.{MailboxWellFormed}
+use Rattle.model.specs.Waits.{waiters-of}
 use Rattle.parts.specs.Chains.{task-chains, message-chains, tasks-in, messages-in}
 use Rattle.parts.specs.declared.Mailbox.{Mailbox}
 

@@ -12,7 +12,8 @@ use Rattle.chain.specs.Table as chain
 use Rattle.ring.specs.Ring.{stored, InRange}
 use Rattle.model.specs.Sizes.{task-limit, queue-limit, priority-limit}
 use Rattle.model.specs.Rows.{QueueRow, senders-by-priority}
-use Rattle.model.specs.WellFormed.{senders-of, receivers-of, QueueWellFormed}
+use Rattle.model.specs.WellFormed.{QueueWellFormed}
+use Rattle.model.specs.Waits.{senders-of, receivers-of}
 use Rattle.parts.specs.Chains.{task-chains, tasks-in}
 use Rattle.parts.specs.declared.Queue.{Queue}
 

@@ -16,7 +16,7 @@ use Rattle.ring.specs.Ring.{stored, InRange}
 use Rattle.ring.specs.declared.Ring.{Ring}
 use Rattle.model.specs.Sizes.{queue-limit}
 use Rattle.model.specs.Rows.{queue, same-key, QueueRow, has-room, with-words, with-senders, with-receivers}
-use Rattle.model.specs.WellFormed.{senders-of, receivers-of}
+use Rattle.model.specs.Waits.{senders-of, receivers-of}
 use Rattle.model.proofs.Choices.{cond-yes}
 use Rattle.model.proofs.Tests.{from-within}
 use Rattle.parts.specs.Queues.{queue-row}

@@ -20,10 +20,9 @@ use Rattle.ring.specs.declared.Ring.{Ring}
 use Rattle.model.specs.Sizes.{task-limit}
 use Rattle.model.specs.Rows.{Key, task, suspension, queue, mailbox, message, same-key, Row, TaskRow, QueueRow, Effect, with-words, with-senders, with-receivers}
 use Rattle.model.specs.Codes.{finished, waits}
-use Rattle.model.specs.Waits.{held-word, starting, ended}
-use Rattle.model.specs.WaitQueues.{place}
+use Rattle.model.specs.Waits.{held-word, starting, ended, senders-of, receivers-of}
+use Rattle.model.specs.WaitQueues.{place, set-standing}
 use Rattle.model.specs.DataQueues.{take-oldest, take-oldest-and-refill, take-from-sender, wait-to-receive, receive}
-use Rattle.model.specs.WellFormed.{senders-of, receivers-of, set-standing}
 use Rattle.model.specs.declared.Answer.{Answer}
 use Rattle.model.specs.declared.Code.the-variants.{Ok as E-OK}
 use Rattle.model.specs.declared.End.{End}

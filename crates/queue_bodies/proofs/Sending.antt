@@ -10,9 +10,9 @@ use Rattle.ring.specs.Ring.{Pushed, Replaced}
 use Rattle.ring.specs.declared.Ring.{Ring}
 use Rattle.model.specs.Rows.{task, queue, same-key, QueueRow, Effect, senders-by-priority, has-room}
 use Rattle.model.specs.Codes.{finished}
-use Rattle.model.specs.WaitQueues.{release}
+use Rattle.model.specs.WaitQueues.{release, set-standing}
 use Rattle.model.specs.DataQueues.{deliver, store, replace-oldest, wait-to-send, send}
-use Rattle.model.specs.WellFormed.{senders-of, receivers-of, set-standing}
+use Rattle.model.specs.Waits.{senders-of, receivers-of}
 use Rattle.model.specs.declared.Answer.{Answer}
 use Rattle.model.specs.declared.Code.the-variants.{Ok as E-OK}
 use Rattle.model.specs.declared.End.{End}

@@ -6,7 +6,8 @@ use native.Mathlib.Omega.{arith}
 use lib.Dec.{T, leb, leb→le, nleb→lt}
 use Rattle.model.specs.Sizes.{queue-limit, mailbox-limit}
 use Rattle.model.specs.Rows.{valid}
-use Rattle.model.specs.WellFormed.{WaitQueue, object-of, senders-of, receivers-of, waiters-of, wait-queue, ObjectInRange}
+use Rattle.model.specs.WellFormed.{ObjectInRange}
+use Rattle.model.specs.Waits.{WaitQueue, object-of, senders-of, receivers-of, waiters-of, wait-queue}
 use Rattle.model.specs.declared.Wait.{Wait}
 use Rattle.model.specs.declared.Wait.the-variants.{NoWait, Sending, Receiving, AtMailbox}
 use Rattle.parts.specs.Chains.{task-chains, chain-number, wait-chain}

@@ -15,7 +15,8 @@ use Rattle.ring.specs.Ring.{Empty}
 use Rattle.ring.specs.declared.Ring.{Ring}
 use Rattle.model.specs.Sizes.{task-limit, queue-limit, message-limit}
 use Rattle.model.specs.Rows.{Key, task, suspension, queue, mailbox, message, valid, nothing, empty-state}
-use Rattle.model.specs.WellFormed.{WellFormed, WaitQueue, senders-of, receivers-of}
+use Rattle.model.specs.WellFormed.{WellFormed}
+use Rattle.model.specs.Waits.{WaitQueue, senders-of, receivers-of}
 use Rattle.model.proofs.WellFormed.{empty-well-formed}
 use Rattle.model.specs.declared.Code.the-variants.{Ok}
 use Rattle.model.specs.declared.Wait.the-variants.{NoWait}

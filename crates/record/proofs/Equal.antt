@@ -12,7 +12,7 @@ use Rattle.chain.specs.Table.{chain-of}
 use Rattle.chain.proofs.Table.{length-lists, list-none}
 use Rattle.model.specs.Sizes.{mailbox-limit, message-limit}
 use Rattle.model.specs.Rows.{Key, task, suspension, queue, mailbox, message, valid, TaskRow, QueueRow, MailboxRow, MessageRow, Model, messages-by-priority, nothing}
-use Rattle.model.specs.WellFormed.{WaitQueue, object-of, senders-of, receivers-of, waiters-of}
+use Rattle.model.specs.Waits.{WaitQueue, object-of, senders-of, receivers-of, waiters-of}
 use Rattle.model.specs.declared.Wait.the-variants.{NoWait}
 use Rattle.model.proofs.Choices.{cond-no, cond-yes}
 use Rattle.parts.specs.Chains.{message-chains, tasks-in, messages-in}

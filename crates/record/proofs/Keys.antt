@@ -11,7 +11,9 @@ use Rattle.lists.proofs.Members.{map-same}
 use Rattle.chain.specs.Table.{keys-of, Sound}
 use Rattle.model.specs.Sizes.{task-limit, message-limit}
 use Rattle.model.specs.Rows.{task, mailbox, message, valid, TaskRow, MessageRow, messages-by-priority}
-use Rattle.model.specs.WellFormed.{WaitQueue, object-of, standing-in, wait-queue, TaskWellFormed}
+use Rattle.model.specs.WellFormed.{TaskWellFormed}
+use Rattle.model.specs.Waits.{WaitQueue, object-of, wait-queue}
+use Rattle.model.specs.WaitQueues.{standing-in}
 use Rattle.model.proofs.Choices.{cond-yes}
 use Rattle.parts.specs.Chains.{task-chains, message-chains, tasks-in, messages-in}
 use Rattle.parts.specs.Tasks.{task-row}

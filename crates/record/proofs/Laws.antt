@@ -18,7 +18,8 @@ use Rattle.chain.proofs.Standing.{new-list, other-list}
 use Rattle.ring.specs.Ring.{InRange}
 use Rattle.model.specs.Sizes.{task-limit, queue-limit}
 use Rattle.model.specs.Rows.{Key, task, suspension, queue, mailbox, message, same-key, valid, Row, Effect, nothing}
-use Rattle.model.specs.WellFormed.{WaitQueue, senders-of, receivers-of, waiters-of, object-of, set-standing}
+use Rattle.model.specs.Waits.{WaitQueue, senders-of, receivers-of, waiters-of, object-of}
+use Rattle.model.specs.WaitQueues.{set-standing}
 use Rattle.model.specs.declared.Answer.{Answer}
 use Rattle.model.proofs.After.{After, after-return}
 use Rattle.model.proofs.Tests.{from-within}

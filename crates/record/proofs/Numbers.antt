@@ -1,6 +1,6 @@
 -- The cells of a sound record say something: part by part, since each part of it is sound.
 use lib.ListN.{getD}
-use Rattle.model.specs.WellFormed.{senders-of, receivers-of, waiters-of}
+use Rattle.model.specs.Waits.{senders-of, receivers-of, waiters-of}
 use Rattle.parts.specs.Chains.{tasks-in, messages-in}
 use Rattle.cells.proofs.Numbers.{task-numbers, queue-numbers, mailbox-numbers}
 use Rattle.record.specs.Meaning.{no-task-cells, no-queue-cells, no-mailbox-cells}

@@ -10,7 +10,9 @@ use Rattle.chain.specs.Table.{chain-of, keys-of}
 use Rattle.chain.specs.Table as chain
 use Rattle.model.specs.Sizes.{task-limit, message-limit, priority-limit, counter-span}
 use Rattle.model.specs.Rows.{task, suspension, queue, mailbox, message, valid, TaskRow, QueueRow, MailboxRow, messages-by-priority, waiters-by-priority, senders-by-priority, nothing}
-use Rattle.model.specs.WellFormed.{WaitQueue, object-of, senders-of, receivers-of, waiters-of, standing-in, by-priority, wait-queue, TaskWellFormed, QueueWellFormed, MailboxWellFormed, WellFormedRows}
+use Rattle.model.specs.WellFormed.{TaskWellFormed, QueueWellFormed, MailboxWellFormed, WellFormedRows}
+use Rattle.model.specs.Waits.{WaitQueue, object-of, senders-of, receivers-of, waiters-of, wait-queue}
+use Rattle.model.specs.WaitQueues.{standing-in, by-priority}
 use Rattle.model.proofs.Choices.{cond-yes}
 use Rattle.model.proofs.WellFormed.{empty-well-formed}
 use Rattle.parts.specs.Chains.{task-chains, message-chains, tasks-in}

@@ -17,7 +17,9 @@ use Rattle.chain.proofs.Laws.{list-once}
 use Rattle.chain.proofs.Standing.{stands-in, stands-there, stands-nowhere, stands-within}
 use Rattle.model.specs.Sizes.{task-limit, mailbox-limit, message-limit}
 use Rattle.model.specs.Rows.{task, queue, mailbox, message, valid, TaskRow, QueueRow, MailboxRow, MessageRow}
-use Rattle.model.specs.WellFormed.{WaitQueue, object-of, senders-of, receivers-of, waiters-of, standing-in, wait-queue, named-mailbox}
+use Rattle.model.specs.WellFormed.{named-mailbox}
+use Rattle.model.specs.Waits.{WaitQueue, object-of, senders-of, receivers-of, waiters-of, wait-queue}
+use Rattle.model.specs.WaitQueues.{standing-in}
 use Rattle.parts.specs.Chains.{task-chains, message-chains, chain-number, wait-chain, tasks-in, messages-in}
 use Rattle.model.specs.declared.Wait.{Wait}
 use Rattle.model.specs.declared.Wait.the-variants.{NoWait, Sending, Receiving, AtMailbox}
@@ -90,9 +92,9 @@ module _ (s : State) where
 
     once : (k : WaitQueue) → Once (standing-in (abs s .rows) k)
     unfolding tasks-in
-    once (senders-of q) = row-cases s (queue q) (λ x. Once (x .senders)) (λ v. chain-once (senders-of q) v) (λ n. lists.nothing)
-    once (receivers-of q) = row-cases s (queue q) (λ x. Once (x .receivers)) (λ v. chain-once (receivers-of q) v) (λ n. lists.nothing)
-    once (waiters-of b) = row-cases s (mailbox b) (λ x. Once (x .waiters)) (λ v. chain-once (waiters-of b) v) (λ n. lists.nothing)
+    once (senders-of q) = row-cases s (queue q) (λ x. Once (x .senders)) (λ v. chain-once (senders-of q) v) (λ n. lists.no-number)
+    once (receivers-of q) = row-cases s (queue q) (λ x. Once (x .receivers)) (λ v. chain-once (receivers-of q) v) (λ n. lists.no-number)
+    once (waiters-of b) = row-cases s (mailbox b) (λ x. Once (x .waiters)) (λ v. chain-once (waiters-of b) v) (λ n. lists.no-number)
 
     -- Tasks stand where they wait if each stands in the chain that its wait names.
     pub waiting-from : ((t : ℕ) → T (valid (task t)) → WaitSound (s .counter) (chain-of t (task-lists s)) (task-at s t .wait))
@@ -159,4 +161,4 @@ module _ (s : State) where
             ap (λ (x : MessageRow). named-mailbox x) (row-is s (message g) (c .1)) ∙ (ap (λ n. cond (eqb n 0) none (some n)) (c .0) ∙ some-number b (w .0))
 
         no-twice : (b : ℕ) → Once (abs s .rows (mailbox b) .messages)
-        no-twice b = row-cases s (mailbox b) (λ x. Once (x .messages)) (λ v. let r = from-within 1 mailbox-limit b v in list-once (record { sound = H; low = r .0; high = r .1 })) (λ n. lists.nothing)
+        no-twice b = row-cases s (mailbox b) (λ x. Once (x .messages)) (λ v. let r = from-within 1 mailbox-limit b v in list-once (record { sound = H; low = r .0; high = r .1 })) (λ n. lists.no-number)

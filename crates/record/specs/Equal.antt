@@ -6,7 +6,7 @@ use lib.Dec.{T}
 use lib.ListN.{getD}
 use Rattle.ring.specs.Ring.{stored}
 use Rattle.model.specs.Rows.{task, queue, mailbox, message, valid, messages-by-priority}
-use Rattle.model.specs.WellFormed.{WaitQueue, object-of}
+use Rattle.model.specs.Waits.{WaitQueue, object-of}
 use Rattle.parts.specs.Chains.{tasks-in, messages-in}
 use Rattle.parts.specs.declared.Task.{Task}
 use Rattle.parts.specs.declared.Queue.{Queue}

@@ -12,7 +12,7 @@ use Rattle.chain.specs.Table.{lists, chain-of}
 use Rattle.model.specs.Sizes.{message-limit}
 use Rattle.model.specs.Rows.{task, suspension, queue, mailbox, message, valid, Row, MessageRow, Model, messages-by-priority}
 use Rattle.model.specs.Calls.{row-if-valid}
-use Rattle.model.specs.WellFormed.{senders-of, receivers-of, waiters-of}
+use Rattle.model.specs.Waits.{senders-of, receivers-of, waiters-of}
 use Rattle.parts.specs.Chains.{message-chains, tasks-in, messages-in}
 use Rattle.parts.specs.Tasks.{task-row}
 use Rattle.parts.specs.Queues.{queue-row}

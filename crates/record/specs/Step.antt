@@ -36,11 +36,11 @@ pub record Does (p : Effect) (s : State) (r : Step) : Type 0 where
 pub record Accepted (n : ℕ) (s : State) (c : Call) : Type 0 where
   pub sound : Sound s
   pub number-is : c .number ≡ n
-  pub accepted : T (not (refused true (view-of (abs s .rows) c) c))
+  pub accepted : T (not (refused (view-of (abs s) c) c))
 
 -- The step does what the definition of this call says.
 abbrev pub Performs : (Environment → View → Call → Effect) → State → Call → Step → Type 0
-Performs f s c r = Does (f (abs s .environment) (view-of (abs s .rows) c) c) s r
+Performs f s c r = Does (f (abs s .environment) (view-of (abs s) c) c) s r
 
 -- ── Any record, with any call or tick ──
 
@@ -54,7 +54,7 @@ pub record Follows (s : State) (c : Call) (r : Step) : Type 0 where
   pub answer-is : r .answer ≡ step (abs s) c .answer
   pub meaning-is : abs (r .state) ≡ step (abs s) c .state
   pub sound : Sound (r .state)
-  pub unchanged : T (not (eqb (c .number) 0)) → T (refused true (view-of (abs s .rows) c) c) → r .state ≡ s
+  pub unchanged : T (not (eqb (c .number) 0)) → T (refused (view-of (abs s) c) c) → r .state ≡ s
 
 -- A step of any record, sound or not, with any call, of whatever number; number 0 is the tick.
 pub record Stepped (s : State) (c : Call) (r : Step) : Type 0 where

@@ -4,7 +4,7 @@ use mathlib.Core.Bool.{Bool, true, false, not}
 use mathlib.Core.List.{List, [], _∷_}
 use lib.Dec.{T}
 use Rattle.lists.specs.Lists.{Each, none, both}
-use Rattle.rows.specs.Program.{Program, return, get, put, if_then_else_, get-each, Rows, update, run}
+use Rattle.rows.specs.Program.{Program, return, get, put, if_then_else_, get-each, run-first, Rows, update, run}
 use Rattle.rows.proofs.Update.{update-cases, update-other, update-agree}
 
 -- `NamedIn S k v`: whatever the row v at key k names lies in S.
@@ -50,6 +50,15 @@ module _ {Key : Type 0} {Row : Key → Type 0} {A : Type 0} (NamedIn : (Key → 
   within-map g (get k f) w = (w .0, λ v r. within-map g (f v) (w .1 v r))
   within-map g (put k v p) w = (w .0, w .1, within-map g p (w .2))
   within-map g (if b then p else q) w = (λ t. within-map g p (w .0 t), λ t. within-map g q (w .1 t))
+
+-- Two programs in a row: the second is within S for every answer that the first may give.
+module _ {Key : Type 0} {Row : Key → Type 0} {X A : Type 0} (NamedIn : (Key → Type 0) → (k : Key) → Row k → Type 0) (S : Key → Type 0) (P : X → Type 0) (Q : A → Type 0) where
+  pub in-run-first : (p : Program Key Row X) (f : X → Program Key Row A) → Within NamedIn S P p → ((x : X) → P x → Within NamedIn S Q (f x)) → Within NamedIn S Q (run-first p f)
+  unfolding Within run-first
+  in-run-first (return x) f w h = h x w
+  in-run-first (get k g) f w h = (w .0, λ v r. in-run-first (g v) f (w .1 v r) h)
+  in-run-first (put k v p) f w h = (w .0, w .1, in-run-first p f (w .2) h)
+  in-run-first (if b then p else q) f w h = (λ t. in-run-first p f (w .0 t) h, λ t. in-run-first q f (w .1 t) h)
 
 module _ {Key : Type 0} {Row : Key → Type 0} (same-key : Discrete Key) (NamedIn : (Key → Type 0) → (k : Key) → Row k → Type 0) (S : Key → Type 0) where
   update-closed : (k : Key) (v : Row k) (m : Rows Row) → NamedIn S k v → Closed NamedIn S m → Closed NamedIn S (update same-key k v m)

@@ -3,7 +3,7 @@ use mathlib.Core.Path.{_≡_, refl}
 use mathlib.Core.Bool.{Bool, true, false, not}
 use mathlib.Core.List.{List, [], _∷_, map}
 use lib.Dec.{T}
-use Rattle.rows.specs.Program.{Program, return, get, put, if_then_else_, get-each, Rows, update, run}
+use Rattle.rows.specs.Program.{Program, return, get, put, if_then_else_, get-each, run-first, Rows, update, run}
 
 module _ {Key : Type 0} {Row : Key → Type 0} {A : Type 0} (same-key : Discrete Key) where
   pub run-return : (a : A) (m : Rows Row) → run {Row = Row} same-key (return a) m ≡ record { state = m; answer = a }
@@ -33,3 +33,13 @@ module _ {Key : Type 0} {Row : Key → Type 0} {A : Type 0} (same-key : Discrete
   unfolding run get-each
   run-get-each key read [] f m = refl
   run-get-each key read (n ∷ ns) f m = run-get-each key read ns (λ others. f (read n (m (key n)) ∷ others)) m
+
+  -- The second program goes on from what the first leaves, with its answer.
+  pub run-run-first : {X : Type 0} (p : Program Key Row X) (f : X → Program Key Row A) (m : Rows Row)
+      → run same-key (run-first p f) m ≡ run same-key (f (run same-key p m .answer)) (run same-key p m .state)
+  unfolding run run-first
+  run-run-first (return x) f m = refl
+  run-run-first (get k g) f m = run-run-first (g (m k)) f m
+  run-run-first (put k v p) f m = run-run-first p f (update same-key k v m)
+  run-run-first (if true then p else q) f m = run-run-first p f m
+  run-run-first (if false then p else q) f m = run-run-first q f m

@@ -5,7 +5,7 @@ use mathlib.Core.List.{List, [], _∷_}
 use Rattle.rows.specs.Program.{Result}
 use Rattle.rows.specs.Runs.{end, answers}
 
--- `Merge turns xs ys zs`: zs holds every element of xs and of ys, each once, each list in its own order.
+-- "Merge" is document 01's word. `Merge turns xs ys zs`: zs holds every element of xs and of ys, each once, each list in its own order.
 -- The turns say at each position whose element stands there: true for xs, false for ys.
 pub data Merge {X : Type 0} : List Bool → List X → List X → List X → Type 0 where
   done : Merge [] [] [] []

@@ -26,6 +26,13 @@ get-each key read (n ∷ ns) rest = do
   others ← get-each key read ns
   rest (read n row ∷ others)
 
+-- One program, and then another with its answer: `x ← run-first p`.
+unfoldable pub run-first : {Key : Type 0} {Row : Key → Type 0} {X A : Type 0} → Program Key Row X → (X → Program Key Row A) → Program Key Row A
+run-first (return x) rest = rest x
+run-first (get k f) rest = get k (λ row. run-first (f row) rest)
+run-first (put k v p) rest = put k v (run-first p rest)
+run-first (if b then p else q) rest = if b then run-first p rest else run-first q rest
+
 -- What a step hands back.
 pub record Result (S A : Type 0) : Type 0 where
   pub state : S
@@ -47,14 +54,14 @@ module _ {Key : Type 0} {Row : Key → Type 0} (same-key : Discrete Key) where
   run (if true then p else q) m = run p m
   run (if false then p else q) m = run q m
 
--- A state: what calls read and none writes, and the rows.
-pub record State (E : Type 0) {Key : Type 0} (Row : Key → Type 0) : Type 0 where
+-- An environment, which calls read and none writes, and the rows.
+pub record Configuration (E : Type 0) {Key : Type 0} (Row : Key → Type 0) : Type 0 where
   pub environment : E
   pub rows : Rows Row
 
 -- A call as a step: its program in that environment, run on the rows.
 module _ {Key E R A : Type 0} {Row : Key → Type 0} (same-key : Discrete Key) (program : E → R → Program Key Row A) where
-  unfoldable pub step-of : State E Row → R → Result (State E Row) A
+  unfoldable pub step-of : Configuration E Row → R → Result (Configuration E Row) A
   step-of s r =
       let o = run same-key (program (s .environment) r) (s .rows) in
       record { state = record { environment = s .environment; rows = o .state }; answer = o .answer }

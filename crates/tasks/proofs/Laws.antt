@@ -15,7 +15,7 @@ use Rattle.rows.specs.Program.{put, update}
 use Rattle.model.specs.Sizes.{task-limit, priority-limit}
 use Rattle.model.specs.Rows.{Key, task, suspension, queue, mailbox, message, same-key, valid}
 use Rattle.model.specs.Codes.{finished, done}
-use Rattle.model.specs.Calls.{names-task, task-priority-of}
+use Rattle.model.specs.Calls.{names-task, reads-suspension, task-priority-of}
 use Rattle.model.specs.Errors.{exists}
 use Rattle.model.specs.Waits.{able, wait-number, wait-object, wait-end, due}
 use Rattle.model.specs.Tasks.{define-task, rel-wai, look, fetch}
@@ -168,8 +168,8 @@ module _ {n : ℕ} {s : State} {c : Call} (a : Accepted n s c) (named : T (names
   row-in-view : view a .the-task ≡ task-row (task-at s (c .object)) (getD (s .waiting .key) (c .object) 0)
   row-in-view = the-task-is a named ∙ row-is s (task (c .object)) (valid-task a named)
 
-  suspension-in-view : view a .suspended ≡ task-at s (c .object) .suspended
-  suspension-in-view = suspended-is a named ∙ row-is s (suspension (c .object)) (valid-task a named)
+  suspension-in-view : T (reads-suspension (numbered n c)) → view a .suspended ≡ task-at s (c .object) .suspended
+  suspension-in-view reads = suspended-is a reads ∙ row-is s (suspension (c .object)) (valid-task a named)
 
 -- 20, 21
 pub suspension-set : {s r : State} {t : ℕ} {b : Bool} {x : Answer} → Becomes s (update same-key (suspension t) b (abs s .rows)) r → x ≡ finished E-OK 0 0 0
@@ -209,7 +209,7 @@ module _ {s : State} {c : Call} where
   pub wait-looked-at : Accepted 22 s c → {x : Answer} {y : Task} {number object : ℕ} → y ≡ task-at s (c .object) → number ≡ wait-number (y .wait) → object ≡ wait-object (y .wait)
       → x ≡ finished E-OK number object (boolByte (y .suspended)) → Performs look s c (record { state = s; answer = x })
   unfolding one-of
-  wait-looked-at a read n o e = performs a look (stays (a .sound .readable) (e ∙ rw (n, o, read, row-in-view a tt, suspension-in-view a tt, bit-of (task-at s (c .object) .suspended)) refl))
+  wait-looked-at a read n o e = performs a look (stays (a .sound .readable) (e ∙ rw (n, o, read, row-in-view a tt, suspension-in-view a tt tt, bit-of (task-at s (c .object) .suspended)) refl))
 
   -- 23
   module _ (a : Accepted 23 s c) where

@@ -1,5 +1,5 @@
 -- What is seen of the cells of the numbers that a call names is what the call has in view: kind by kind, by the decision whether the number is valid.
-use mathlib.Core.Path.{_≡_, refl, sym, ap, _∙_}
+use mathlib.Core.Path.{_≡_, refl, sym, ap, _∙_, subst}
 use mathlib.Core.Bool.{Bool, true, false, cond}
 use mathlib.Core.List.{List, [], _∷_, headD, List·Memᴰ as In, List·Memᴰ·head as here}
 use Prim.Native.Nat.{ℕ, _+_, _<_, _≤_}
@@ -8,26 +8,29 @@ use lib.Dec.{T, eqb}
 use lib.ListN.{length, getD}
 use borrow.Author.Tests.{ne-eqb}
 use Rattle.lists.specs.Lists.{empty}
+use Rattle.rows.specs.Program as Program
 use Rattle.chain.specs.Table.{lists}
 use Rattle.chain.specs.Table as chain
 use Rattle.chain.proofs.Table.{member-range}
 use Rattle.ring.specs.Ring.{stored}
-use Rattle.errors.specs.Seen.{ShowsTask, ShowsQueue, ShowsMailbox, Shows}
+use Rattle.errors.specs.Seen.{ShowsQueue, ShowsMailbox, Shows}
 use Rattle.errors.specs.declared.TaskSeen.{TaskSeen}
 use Rattle.errors.specs.declared.QueueSeen.{QueueSeen}
 use Rattle.errors.specs.declared.MailboxSeen.{MailboxSeen}
 use Rattle.errors.specs.declared.Seen.{Seen}
 use Rattle.model.specs.Sizes.{within}
-use Rattle.model.specs.Rows.{task, suspension, queue, mailbox, message, valid, no-task, no-queue, no-mailbox, free, messages-by-priority}
-use Rattle.model.specs.Calls.{row-if-valid, view-of, task-named, queue-named, mailbox-named, message-named}
-use Rattle.model.specs.Waits.{able}
-use Rattle.model.specs.WellFormed.{senders-of, receivers-of, waiters-of}
+use Rattle.model.specs.Rows.{task, suspension, queue, mailbox, message, valid, Row, no-task, no-queue, no-mailbox, free, messages-by-priority}
+use Rattle.model.specs.Calls.{row-if-valid, view-of, names-task, reads-suspension, task-named, suspension-named, queue-named, mailbox-named, message-named}
+use Rattle.model.specs.Waits.{able, senders-of, receivers-of, waiters-of}
 use Rattle.model.specs.declared.Call.{Call}
 use Rattle.parts.specs.Chains.{tasks-in, messages-in}
 use Rattle.parts.specs.Tasks.{task-row}
 use Rattle.parts.specs.Queues.{queue-row}
 use Rattle.parts.specs.Mailboxes.{kept-attribute, mailbox-row}
 use Rattle.model.proofs.Tests.{from-within}
+use Rattle.model.proofs.Choices.{cond-yes}
+use Rattle.model.proofs.Step.{view-is}
+use Rattle.model.proofs.Accepted.{reads-named}
 use Rattle.parts.specs.declared.Task.{Task}
 use Rattle.parts.specs.declared.Queue.{Queue}
 use Rattle.parts.specs.declared.Mailbox.{Mailbox}
@@ -36,19 +39,19 @@ use Rattle.cells.specs.Tasks.{defined-by, suspended-by, read-task}
 use Rattle.cells.proofs.Reading.{task-defined, task-suspended, task-wait, reads-able}
 use Rattle.record.specs.declared.State.{State}
 use Rattle.record.specs.Meaning.{task-at, queue-at, mailbox-at, mailbox-of, cells-of, abs}
-use Rattle.views.specs.Shown.{task-shown, suspension-shown, queue-shown, MailboxShown}
+use Rattle.views.specs.Shown.{TaskShown, task-shown, suspension-shown, queue-shown, MailboxShown}
 
 -- ── From the cells read to what is in view ──
 
 module _ (s : State) (n : ℕ) {cell : ℕ} where
-  pub sees-task : {y : TaskSeen} → cell ≡ cond (valid (task n)) n 0 → ShowsTask (task-shown n (task-at s cell)) (suspension-shown n (task-at s cell)) y
-      → ShowsTask (row-if-valid (abs s .rows) (task n)) (row-if-valid (abs s .rows) (suspension n)) y
+  pub sees-task : {y : TaskSeen} → cell ≡ cond (valid (task n)) n 0 → TaskShown (task-shown n (task-at s cell)) (suspension-shown n (task-at s cell)) y
+      → TaskShown (row-if-valid (abs s .rows) (task n)) (row-if-valid (abs s .rows) (suspension n)) y
   unfolding abs
   sees-task {y} e h = go (valid (task n)) (rw e at h)
     where
-      go : (b : Bool) → ShowsTask (cond b (task-row (task-at s (cond b n 0)) 0) no-task) (cond b (task-at s (cond b n 0) .suspended) false) y
-          → ShowsTask (cond b (cond b (cells-of s (task n)) no-task) no-task) (cond b (cond b (cells-of s (suspension n)) false) false) y
-      go true h = record { defined = h .defined; able = h .able; suspended = h .suspended }
+      go : (b : Bool) → TaskShown (cond b (task-row (task-at s (cond b n 0)) 0) no-task) (cond b (task-at s (cond b n 0) .suspended) false) y
+          → TaskShown (cond b (cond b (cells-of s (task n)) no-task) no-task) (cond b (cond b (cells-of s (suspension n)) false) false) y
+      go true h = record { shows = record { defined = h .shows .defined; able = h .shows .able }; suspended = h .suspended }
       go false h = h
 
   pub sees-queue : {x : Queue} {y : QueueSeen} → cell ≡ cond (valid (queue n)) n 0 → x ≡ queue-at s cell → ShowsQueue (queue-shown n x (s .waiting .link)) y → ShowsQueue (row-if-valid (abs s .rows) (queue n)) y
@@ -89,12 +92,12 @@ head-empty {numbers} {chains} {link} H k {x} e = go (getD (lists numbers chains 
     go (y ∷ l) e positive = rw e (ne-eqb y 0 (λ z. let h = positive y (here refl) in omega arith))
 
 module _ (n : ℕ) where
-  pub no-task-seen : (x : Task) → within 1 32 n ≡ false → ShowsTask (task-shown n x) (suspension-shown n x) (record { defined = false; able = true; suspended = false })
-  no-task-seen x e = rw e (record { defined = refl; able = refl; suspended = refl })
+  pub no-task-seen : (x : Task) → within 1 32 n ≡ false → TaskShown (task-shown n x) (suspension-shown n x) (record { defined = false; able = true; suspended = false })
+  no-task-seen x e = rw e (record { shows = record { defined = refl; able = refl }; suspended = refl })
 
   pub task-seen : (x : TaskCells) {defined suspended : Bool} → within 1 32 n ≡ true → defined ≡ defined-by (x .flags) → suspended ≡ suspended-by (x .flags)
-      → ShowsTask (task-shown n (read-task x)) (suspension-shown n (read-task x)) (record { defined = defined; able = eqb (x .wait) 0; suspended = suspended })
-  task-seen x e d s = rw e (record { defined = d ∙ sym (task-defined x); able = sym (ap able (task-wait x) ∙ reads-able x); suspended = s ∙ sym (task-suspended x) })
+      → TaskShown (task-shown n (read-task x)) (suspension-shown n (read-task x)) (record { defined = defined; able = eqb (x .wait) 0; suspended = suspended })
+  task-seen x e d s = rw e (record { shows = record { defined = d ∙ sym (task-defined x); able = sym (ap able (task-wait x) ∙ reads-able x) }; suspended = s ∙ sym (task-suspended x) })
 
   pub no-queue-seen : (x : Queue) (link : List ℕ) → within 1 16 n ≡ false
       → ShowsQueue (queue-shown n x link) (record { defined = false; capacity = 0; count = 0; «no_sender» = true; «no_receiver» = true })
@@ -127,15 +130,26 @@ module _ (n : ℕ) where
 
 -- ── All that a call has in view ──
 
+-- The suspension that a call reads is that of the task it names.
+suspension-read : (m : Program.Rows Row) (c : Call) → T (reads-suspension c) → row-if-valid m (suspension (task-named c)) ≡ row-if-valid m (suspension (suspension-named c))
+suspension-read m c t = ap (λ n. row-if-valid m (suspension n)) (cond-yes (names-task c) (c .object) 0 (reads-named c t) ∙ sym (cond-yes (reads-suspension c) (c .object) 0 t))
+
 pub sees : (s : State) (c : Call) {y : Seen}
-    → ShowsTask (row-if-valid (abs s .rows) (task (c .caller))) (row-if-valid (abs s .rows) (suspension (c .caller))) (y .caller)
-    → ShowsTask (row-if-valid (abs s .rows) (task (task-named c))) (row-if-valid (abs s .rows) (suspension (task-named c))) (y .task)
+    → TaskShown (row-if-valid (abs s .rows) (task (c .caller))) (row-if-valid (abs s .rows) (suspension (c .caller))) (y .caller)
+    → TaskShown (row-if-valid (abs s .rows) (task (task-named c))) (row-if-valid (abs s .rows) (suspension (task-named c))) (y .task)
     → ShowsQueue (row-if-valid (abs s .rows) (queue (queue-named c))) (y .queue)
     → ShowsMailbox (row-if-valid (abs s .rows) (mailbox (mailbox-named c))) (y .mailbox)
     → y .«message_free» ≡ eqb (row-if-valid (abs s .rows) (message (message-named c)) .queued-in) 0
-    → Shows (view-of (abs s .rows) c) y
-unfolding view-of
-sees s c e f g h i = record { caller = e; task = f; queue = g; mailbox = h; free = i }
+    → Shows (view-of (abs s) c) c y
+sees s c {y} e f g h i = subst (λ v. Shows v c y) (sym (view-is (abs s) c)) (record {
+  caller = e .shows;
+  caller-suspended = e .suspended;
+  task = f .shows;
+  suspended = λ t. f .suspended ∙ suspension-read (abs s .rows) c t;
+  queue = g;
+  mailbox = h;
+  free = i;
+})
 
 -- A valid number, as two facts.
 pub valid-range : (limit n : ℕ) → within 1 limit n ≡ true → (1 ≤ n) × (n ≤ limit)

@@ -1,11 +1,13 @@
 -- What is seen of a cell: the row that it means where the number is valid, and nothing elsewhere (model: `row-if-valid`). A task's priority and a mailbox's waiters aren't looked at.
+use mathlib.Core.Path.{_≡_}
 use mathlib.Core.Bool.{Bool, false, cond}
 use mathlib.Core.List.{List}
 use Prim.Native.Nat.{ℕ}
-use Rattle.errors.specs.Seen.{ShowsMailbox}
+use Rattle.errors.specs.Seen.{ShowsTask, ShowsMailbox}
+use Rattle.errors.specs.declared.TaskSeen.{TaskSeen}
 use Rattle.errors.specs.declared.MailboxSeen.{MailboxSeen}
 use Rattle.model.specs.Rows.{task, queue, mailbox, valid, TaskRow, QueueRow, no-task, no-queue, no-mailbox}
-use Rattle.model.specs.WellFormed.{senders-of, receivers-of}
+use Rattle.model.specs.Waits.{senders-of, receivers-of}
 use Rattle.parts.specs.Chains.{tasks-in, messages-in}
 use Rattle.parts.specs.Tasks.{task-row}
 use Rattle.parts.specs.Queues.{queue-row}
@@ -16,6 +18,10 @@ use Rattle.parts.specs.declared.Mailbox.{Mailbox}
 
 abbrev pub task-shown : ℕ → Task → TaskRow
 task-shown t x = cond (valid (task t)) (task-row x 0) no-task
+
+pub record TaskShown (x : TaskRow) (is-suspended : Bool) (y : TaskSeen) : Type 0 where
+  pub shows : ShowsTask x y
+  pub suspended : y .suspended ≡ is-suspended
 
 abbrev pub suspension-shown : ℕ → Task → Bool
 suspension-shown t x = cond (valid (task t)) (x .suspended) false

@@ -5,13 +5,13 @@ ghost use mathlib.Core.Bool.{cond};
 ghost use lib.Dec.{eqb};
 ghost use Rattle.cells.specs.Tasks.{read-task};
 ghost use Rattle.chain.specs.Table as chain;
-ghost use Rattle.errors.specs.Seen.{ShowsTask, ShowsQueue, Shows};
+ghost use Rattle.errors.specs.Seen.{ShowsQueue, Shows};
 ghost use Rattle.model.specs.Calls.{view-of};
 ghost use Rattle.model.specs.Sizes.{within};
 ghost use Rattle.parts.specs.Mailboxes.{kept-attribute};
 ghost use Rattle.record.specs.Meaning.{mailbox-of, abs};
 ghost use Rattle.record.specs.Sound.{Sound};
-ghost use Rattle.views.specs.Shown.{task-shown, suspension-shown, queue-shown, MailboxShown};
+ghost use Rattle.views.specs.Shown.{TaskShown, task-shown, suspension-shown, queue-shown, MailboxShown};
 use cells::TaskCells;
 use chain::CELLS;
 use errors::MailboxSeen;
@@ -48,7 +48,7 @@ fn cell_of(number: u8, limit: u8) -> usize
 }
 
 fn see_task(number: u8, cells: TaskCells) -> TaskSeen
-    ensures { λ r. ⌜ ShowsTask (task-shown number (read-task cells)) (suspension-shown number (read-task cells)) r ⌝ }
+    ensures { λ r. ⌜ TaskShown (task-shown number (read-task cells)) (suspension-shown number (read-task cells)) r ⌝ }
 {
     if !is_valid(number, TASKS as u8) {
         return TaskSeen {
@@ -160,7 +160,7 @@ fn see_message(number: u32, link: &[u8; CELLS]) -> bool
 
 pub fn see(state: State, call: Call) -> Seen
     requires { ⌜ Sound state ⌝ }
-    ensures { λ r. ⌜ Shows (view-of (abs state .rows) call) r ⌝ }
+    ensures { λ r. ⌜ Shows (view-of (abs state) call) call r ⌝ }
 {
     let caller = call.caller;
     let calling = state.tasks[cell_of(caller, TASKS as u8)];

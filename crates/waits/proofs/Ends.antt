@@ -18,9 +18,9 @@ use Rattle.chain.proofs.Laws.{list-range}
 use Rattle.model.specs.Sizes.{task-limit}
 use Rattle.model.specs.Rows.{task, mailbox, same-key, valid, Row, TaskRow, Effect}
 use Rattle.model.specs.Codes.{waits}
-use Rattle.model.specs.Waits.{able, ended}
-use Rattle.model.specs.WaitQueues.{end-wait, end-waits}
-use Rattle.model.specs.WellFormed.{WaitQueue, object-of, standing-in, wait-queue, ends-a-wait, TaskWellFormed, WellFormedRows}
+use Rattle.model.specs.Waits.{able, ended, WaitQueue, object-of, wait-queue}
+use Rattle.model.specs.WaitQueues.{end-wait, end-waits, standing-in}
+use Rattle.model.specs.WellFormed.{ends-a-wait, TaskWellFormed, WellFormedRows}
 use Rattle.model.specs.declared.Code.{Code}
 use Rattle.model.specs.declared.Wait.{Wait}
 use Rattle.model.specs.declared.Wait.the-variants.{NoWait, Sending, Receiving, AtMailbox}

@@ -12,8 +12,9 @@ use Rattle.rows.specs.Program.{update}
 use Rattle.chain.specs.Changes.{HasChain, Changed}
 use Rattle.model.specs.Sizes.{task-limit, counter-span}
 use Rattle.model.specs.Rows.{task, same-key, valid, Row, TaskRow}
-use Rattle.model.specs.Waits.{starting, ended}
-use Rattle.model.specs.WellFormed.{WaitQueue, object-of, standing-in, set-standing, WellFormedRows}
+use Rattle.model.specs.Waits.{starting, ended, WaitQueue, object-of}
+use Rattle.model.specs.WellFormed.{WellFormedRows}
+use Rattle.model.specs.WaitQueues.{standing-in, set-standing}
 use Rattle.model.specs.declared.Code.{Code}
 use Rattle.model.specs.declared.Code.the-variants.{Ok as E-OK}
 use Rattle.model.specs.declared.Wait.{Wait}

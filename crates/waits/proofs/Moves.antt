@@ -13,9 +13,8 @@ use Rattle.chain.proofs.Laws.{list-range, inserted-place}
 use Rattle.model.specs.Sizes.{task-limit}
 use Rattle.model.specs.Rows.{task, valid, TaskRow}
 use Rattle.model.specs.Codes.{waits}
-use Rattle.model.specs.Waits.{ended, starting}
-use Rattle.model.specs.WaitQueues.{place}
-use Rattle.model.specs.WellFormed.{WaitQueue, standing-in}
+use Rattle.model.specs.Waits.{ended, starting, WaitQueue}
+use Rattle.model.specs.WaitQueues.{place, standing-in}
 use Rattle.model.specs.declared.Code.the-variants.{Ok as E-OK}
 use Rattle.model.specs.declared.Wait.{Wait}
 use Rattle.model.proofs.Choices.{cond-yes}

@@ -14,9 +14,9 @@ use Rattle.chain.specs.Table.{lists, chain-of}
 use Rattle.model.specs.Sizes.{task-limit}
 use Rattle.model.specs.Rows.{task, mailbox, same-key, valid, Row, Effect}
 use Rattle.model.specs.Codes.{waits}
-use Rattle.model.specs.Waits.{able, starting, ended}
-use Rattle.model.specs.WaitQueues.{place, end-waits}
-use Rattle.model.specs.WellFormed.{WaitQueue, object-of, standing-in, set-standing, wait-queue, ObjectInRange, ends-a-wait}
+use Rattle.model.specs.Waits.{able, starting, ended, WaitQueue, object-of, wait-queue}
+use Rattle.model.specs.WaitQueues.{place, end-waits, standing-in, set-standing}
+use Rattle.model.specs.WellFormed.{ObjectInRange, ends-a-wait}
 use Rattle.model.specs.declared.Code.{Code}
 use Rattle.model.specs.declared.Code.the-variants.{Ok as E-OK}
 use Rattle.model.specs.declared.Wait.{Wait}

@@ -5,7 +5,7 @@ use Rattle.errors.proofs.caller_cannot_call.Tie as tie
 
 returns : tie.Need-returns
 unfolding caller-cannot-call
-returns c v shows = simp (shows .caller .defined, shows .caller .able, shows .caller .suspended)
+returns c v shows = simp (shows .caller .defined, shows .caller .able, shows .caller-suspended)
 
 pub caller-cannot-call-spec : {M : Type 1} → statement M
 caller-cannot-call-spec = tie.close (tie.spec returns)

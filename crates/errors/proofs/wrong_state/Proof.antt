@@ -1,6 +1,7 @@
 -- `wrong_state` is the definition's test, part by part.
 use borrow.Author.Needs.{needs}
 use Rattle.model.specs.Errors.{wrong-state}
+use Rattle.errors.proofs.Laws.{seen-by-resume}
 use Rattle.errors.proofs.wrong_state.Statement.{statement}
 use Rattle.errors.proofs.wrong_state.Tie as tie
 
@@ -22,7 +23,7 @@ returns c v shows =
       c .before .before .before .before .names-message .ensures,
       shows .free,
       shows .task .able,
-      shows .task .suspended,
+      seen-by-resume (c .before .before .before .before .before .before .before .args .call) shows,
     )
 
 pub wrong-state-spec : {M : Type 1} → statement M

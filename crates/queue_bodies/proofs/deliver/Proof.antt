@@ -1,6 +1,6 @@
 -- `deliver` hands the word to the head receiver: by what a release promises.
 use native.Mathlib.Omega.{arith}
-use Rattle.model.specs.WellFormed.{receivers-of}
+use Rattle.model.specs.Waits.{receivers-of}
 use Rattle.waits.proofs.Laws.{releasable}
 use borrow.Author.Needs.{needs}
 use Rattle.queue_bodies.proofs.Laws.{queue-range, on-receivers, receivers-chain}

@@ -1,8 +1,7 @@
 -- `take_from_sender` hands out the head sender's word and releases it: by what a release promises.
 use mathlib.Core.Path.{ap, _∙_}
 use Rattle.model.specs.Codes.{finished}
-use Rattle.model.specs.Waits.{held-word}
-use Rattle.model.specs.WellFormed.{senders-of}
+use Rattle.model.specs.Waits.{held-word, senders-of}
 use Rattle.model.specs.declared.Code.the-variants.{Ok as E-OK}
 use Rattle.parts.specs.declared.Task.{Task}
 use Rattle.waits.proofs.Laws.{has-chain, releasable}

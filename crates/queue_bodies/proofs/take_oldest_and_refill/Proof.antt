@@ -1,7 +1,6 @@
 -- `take_oldest_and_refill` hands out the oldest word, stores the head sender's and releases it: by what the ring and a release promise.
 use mathlib.Core.Path.{ap, _∙_}
-use Rattle.model.specs.WellFormed.{senders-of}
-use Rattle.model.specs.Waits.{held-word}
+use Rattle.model.specs.Waits.{held-word, senders-of}
 use Rattle.parts.specs.declared.Task.{Task}
 use Rattle.waits.proofs.Laws.{has-chain, releasable}
 use borrow.Author.Needs.{needs}

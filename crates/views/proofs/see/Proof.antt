@@ -70,7 +70,7 @@ see-task-requires-2 : tie.Need-see-task-requires-2
 see-task-requires-2 c κs = search needs
 
 see-queue-requires : tie.Need-see-queue-requires
-see-queue-requires c κs = search needs
+see-queue-requires c κs = c .before .before .before .before .before .before .before .before .before .before .before .before .before .before .before .before .before .pre .readable .waiting
 
 see-mailbox-requires : tie.Need-see-mailbox-requires
 see-mailbox-requires c κs = c .before .before .before .before .before .before .before .before .before .before .before .before .before .before .before .before .before .before .before .before .pre .readable .messages

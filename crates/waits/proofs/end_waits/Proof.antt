@@ -2,7 +2,7 @@
 use mathlib.Core.Path.{_≡_}
 use mathlib.Core.List.{headD}
 use lib.ListN.{length}
-use Rattle.model.specs.WellFormed.{WaitQueue}
+use Rattle.model.specs.Waits.{WaitQueue}
 use Rattle.waits.specs.Waiting.{chain-list, ChainOf, Clearable}
 use Rattle.waits.proofs.Laws.{has-chain}
 use Rattle.waits.proofs.Ends.{Ending, ending-begins, head-endable, still-clearable, ending-on, shorter, ending-done}

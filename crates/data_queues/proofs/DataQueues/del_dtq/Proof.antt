@@ -1,5 +1,5 @@
 -- `del_dtq` ends all waits, then makes the queue undefined.
-use Rattle.model.specs.WellFormed.{senders-of}
+use Rattle.model.specs.Waits.{senders-of}
 use Rattle.queue_bodies.proofs.Laws.{queue-fits, queue-offset, on-senders, on-receivers, senders-chain}
 use Rattle.data_queues.proofs.Calls.{deletes-at, deletes-queue}
 use borrow.Author.Needs.{needs}
