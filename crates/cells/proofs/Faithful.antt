@@ -1,4 +1,4 @@
--- What is written is read again: part by part, by the cases of each.
+-- What is written says what it stands for, and is read again: part by part, by the cases of each.
 use mathlib.Core.Path.{_≡_, refl, ap, _∙_}
 use mathlib.Core.Bool.{Bool, true, false, cond, _||_}
 use lib.Dec.{eqb, ltb}
@@ -14,8 +14,22 @@ use Rattle.parts.specs.declared.Mailbox.{Mailbox}
 use Rattle.cells.specs.declared.TaskCells.{TaskCells}
 use Rattle.cells.specs.declared.QueueCells.{QueueCells}
 use Rattle.cells.specs.declared.MailboxCells.{MailboxCells}
-use Rattle.cells.specs.Tasks.{end-of, nowhere, wait-with, wait-of, code-of, read-task, code-byte, timed-of, tick-of, flags-of, write-task}
+use Rattle.cells.specs.Tasks.{end-of, nowhere, wait-with, wait-of, code-of, read-task, code-byte, CodeBytes, timed-of, tick-of, flags-of, write-task}
 use Rattle.cells.specs.Objects.{flag, read-queue, write-queue, read-mailbox, write-mailbox}
+
+pub code-bytes : CodeBytes
+code-bytes Ok = refl
+code-bytes Sys = refl
+code-bytes Par = refl
+code-bytes Id = refl
+code-bytes Ctx = refl
+code-bytes Iluse = refl
+code-bytes Obj = refl
+code-bytes Noexs = refl
+code-bytes Qovr = refl
+code-bytes Rlwai = refl
+code-bytes Tmout = refl
+code-bytes Dlt = refl
 
 code-again : (code : Code) → code-of (code-byte code) ≡ code
 unfolding code-of

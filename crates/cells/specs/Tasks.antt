@@ -1,10 +1,12 @@
 -- A task's cells. Every number reads as something; one that says nothing reads as what no sound record has, so the test of the record finds it.
+use mathlib.Core.Path.{_≡_}
 use mathlib.Core.Bool.{Bool, true, false, cond, _||_}
 use mathlib.Core.List.{[], _∷_}
 use mathlib.Core.Logic.{_≢_}
 use Prim.Native.Nat.{ℕ, _≤_}
 use lib.Dec.{T, eqb, ltb}
 use Rattle.lists.specs.Lists.{one-of}
+use Rattle.model.specs.Codes.{minus, number}
 use Rattle.model.specs.Waits.{wait-number, wait-object, held-word, wait-end}
 use Rattle.model.specs.declared.Code.{Code}
 use Rattle.model.specs.declared.Code.the-variants.{Ok, Sys, Par, Id, Ctx, Iluse, Obj, Noexs, Qovr, Rlwai, Tmout, Dlt}
@@ -82,6 +84,10 @@ code-byte Qovr = 43
 code-byte Rlwai = 49
 code-byte Tmout = 50
 code-byte Dlt = 51
+
+-- So the cell holds document 01's number of the code.
+abbrev pub CodeBytes : Type 0
+CodeBytes = (code : Code) → number code ≡ minus (code-byte code)
 
 abbrev pub timed-of : End → ℕ
 timed-of Never = 0
