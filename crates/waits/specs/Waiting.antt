@@ -37,6 +37,17 @@ pub record ChainOf (k : WaitQueue) (chain : ℕ) : Type 0 where
   pub valid-object : T (valid (object-of k))
   pub chain-is : chain-number k ≡ chain
 
+-- What is promised below of every wait queue with a chain is promised of exactly one: every chain of the table is a wait queue's, and no two have the same.
+pub record SomeQueue (chain : ℕ) : Type 0 where
+  pub queue : WaitQueue
+  pub is : ChainOf queue chain
+
+abbrev pub EveryChainHasAQueue : Type 0
+EveryChainHasAQueue = (chain : ℕ) → 1 ≤ chain → chain ≤ task-chains → SomeQueue chain
+
+abbrev pub NoChainHasTwoQueues : Type 0
+NoChainHasTwoQueues = (chain : ℕ) (k d : WaitQueue) → ChainOf k chain → ChainOf d chain → k ≡ d
+
 -- A sound record, and the number of a chain.
 pub record OnChain (s : State) (chain : ℕ) : Type 0 where
   pub sound : Sound s
@@ -91,6 +102,14 @@ pub record Endable (s : State) (t : ℕ) : Type 0 where
 
 pub record Ended (s : State) (t : ℕ) (code : Code) (r : State) : Type 0 where
   pub becomes : (k : WaitQueue) → wait-queue (abs s .rows (task t) .wait) ≡ some k → Becomes s (ended-wait t code k (abs s .rows)) r
+
+-- There is such a wait queue, and one alone, since `wait-queue` is a function.
+pub record SomeQueueNamed (wait : Wait) : Type 0 where
+  pub queue : WaitQueue
+  pub is : wait-queue wait ≡ some queue
+
+abbrev pub EveryWaitNamesAQueue : Type 0
+EveryWaitNamesAQueue = (s : State) (t : ℕ) → Endable s t → SomeQueueNamed (abs s .rows (task t) .wait)
 
 -- ── All waits of a wait queue end ──
 
