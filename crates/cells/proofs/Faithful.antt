@@ -14,7 +14,7 @@ use Rattle.parts.specs.declared.Mailbox.{Mailbox}
 use Rattle.cells.specs.declared.TaskCells.{TaskCells}
 use Rattle.cells.specs.declared.QueueCells.{QueueCells}
 use Rattle.cells.specs.declared.MailboxCells.{MailboxCells}
-use Rattle.cells.specs.Tasks.{end-of, nowhere, wait-with, wait-of, code-of, read-task, code-byte, CodeBytes, timed-of, tick-of, flags-of, write-task}
+use Rattle.cells.specs.Tasks.{read-end, nowhere, wait-with, wait-of, read-code, read-task, code-byte, CodeBytes, timed-of, tick-of, flags-of, write-task}
 use Rattle.cells.specs.Objects.{flag, read-queue, write-queue, read-mailbox, write-mailbox}
 
 pub code-bytes : CodeBytes
@@ -31,8 +31,8 @@ code-bytes Rlwai = refl
 code-bytes Tmout = refl
 code-bytes Dlt = refl
 
-code-again : (code : Code) → code-of (code-byte code) ≡ code
-unfolding code-of
+code-again : (code : Code) → read-code (code-byte code) ≡ code
+unfolding read-code
 code-again Ok = refl
 code-again Sys = refl
 code-again Par = refl
@@ -51,7 +51,7 @@ unfolding wait-of write-task
 wait-again t = go (t .wait)
   where
     go : (w : Wait) → cond (eqb (wait-number w) 0) NoWait
-        (cond (ltb 3 (wait-number w) || ltb 1 (timed-of (wait-end w))) nowhere (wait-with (wait-number w) (wait-object w) (end-of (timed-of (wait-end w)) (tick-of (wait-end w))) (held-word w))) ≡ w
+        (cond (ltb 3 (wait-number w) || ltb 1 (timed-of (wait-end w))) nowhere (wait-with (wait-number w) (wait-object w) (read-end (timed-of (wait-end w)) (tick-of (wait-end w))) (held-word w))) ≡ w
     go NoWait = refl
     go (Sending q Never word) = refl
     go (Sending q (At tick) word) = refl

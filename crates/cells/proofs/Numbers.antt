@@ -17,7 +17,7 @@ use Rattle.parts.specs.Mailboxes.{mailbox-row}
 use Rattle.cells.specs.declared.MailboxCells.{MailboxCells}
 use Rattle.cells.specs.declared.QueueCells.{QueueCells}
 use Rattle.cells.specs.declared.TaskCells.{TaskCells}
-use Rattle.cells.specs.Tasks.{nowhere, wait-of, code-of, read-task, TaskNumbers}
+use Rattle.cells.specs.Tasks.{nowhere, wait-of, read-code, read-task, TaskNumbers}
 use Rattle.cells.specs.Objects.{read-queue, read-mailbox}
 
 -- What holds unless a number is beyond its limit.
@@ -59,13 +59,13 @@ stored-code false false false false false false false false false true dlt t = t
 stored-code false false false false false false false false false false true t = tt
 stored-code false false false false false false false false false false false t = absurd t
 
-pub task-numbers-code : (n : ℕ) → T (ends-a-wait (code-of n)) → T (one-of n (0 ∷ 49 ∷ 50 ∷ 51 ∷ []))
-unfolding code-of one-of
+pub task-numbers-code : (n : ℕ) → T (ends-a-wait (read-code n)) → T (one-of n (0 ∷ 49 ∷ 50 ∷ 51 ∷ []))
+unfolding read-code one-of
 task-numbers-code n t =
     stored-code (eqb n 0) (eqb n 17) (eqb n 18) (eqb n 25) (eqb n 28) (eqb n 41) (eqb n 42) (eqb n 43) (eqb n 49) (eqb n 50) (eqb n 51) t
 
 -- The task's code is its number's, as the row of a task that is defined has it.
-kept-code : (x : TaskCells) (defined : Bool) → T defined → T (ends-a-wait (cond defined (read-task x .code) Ok)) → T (ends-a-wait (code-of (x .code)))
+kept-code : (x : TaskCells) (defined : Bool) → T defined → T (ends-a-wait (cond defined (read-task x .code) Ok)) → T (ends-a-wait (read-code (x .code)))
 unfolding read-task
 kept-code x true d t = t
 kept-code x false d t = absurd d

@@ -14,7 +14,7 @@ use Rattle.model.specs.WellFormed.{ends-a-wait}
 use Rattle.model.specs.declared.End.the-variants.{Never, At}
 use Rattle.model.specs.declared.Wait.the-variants.{NoWait, Sending, Receiving, AtMailbox}
 use Rattle.cells.specs.declared.TaskCells.{TaskCells}
-use Rattle.cells.specs.Tasks.{end-of, nowhere, wait-of, code-of, defined-by, suspended-by, read-task}
+use Rattle.cells.specs.Tasks.{read-end, nowhere, wait-of, read-code, defined-by, suspended-by, read-task}
 use Rattle.cells.proofs.Numbers.{task-numbers-code}
 
 -- ── A task ──
@@ -31,7 +31,7 @@ pub task-wait : (x : TaskCells) → read-task x .wait ≡ wait-of x
 unfolding read-task
 task-wait x = refl
 
-pub task-code : (x : TaskCells) → read-task x .code ≡ code-of (x .code)
+pub task-code : (x : TaskCells) → read-task x .code ≡ read-code (x .code)
 unfolding read-task
 task-code x = refl
 
@@ -47,10 +47,10 @@ reads-suspension x undefined = is-map (λ z t. absurd (rw z at t)) (λ n. zero-f
 
 -- ── Its wait ──
 
-pub reads-never : (timed tick : ℕ) → timed ≡ 0 → end-of timed tick ≡ Never
+pub reads-never : (timed tick : ℕ) → timed ≡ 0 → read-end timed tick ≡ Never
 reads-never timed tick e = simp (eq-eqb timed 0 e)
 
-pub reads-at : (timed tick : ℕ) → timed ≢ 0 → end-of timed tick ≡ At tick
+pub reads-at : (timed tick : ℕ) → timed ≢ 0 → read-end timed tick ≡ At tick
 reads-at timed tick e = simp (ne-eqb timed 0 e)
 
 module _ (x : TaskCells) where
@@ -64,15 +64,15 @@ module _ (x : TaskCells) where
     reads-nowhere beyond = simp (ne-eqb (x .wait) 0 some, beyond)
 
     module _ (within : ltb 3 (x .wait) || ltb 1 (x .timed) ≡ false) where
-      pub reads-sending : x .wait ≡ 1 → wait-of x ≡ Sending (x .object) (end-of (x .timed) (x .end)) (x .sending)
+      pub reads-sending : x .wait ≡ 1 → wait-of x ≡ Sending (x .object) (read-end (x .timed) (x .end)) (x .sending)
       unfolding wait-of
       reads-sending e = simp (ne-eqb (x .wait) 0 some, within, eq-eqb (x .wait) 1 e)
 
-      pub reads-receiving : x .wait ≢ 1 → x .wait ≡ 2 → wait-of x ≡ Receiving (x .object) (end-of (x .timed) (x .end))
+      pub reads-receiving : x .wait ≢ 1 → x .wait ≡ 2 → wait-of x ≡ Receiving (x .object) (read-end (x .timed) (x .end))
       unfolding wait-of
       reads-receiving e f = simp (ne-eqb (x .wait) 0 some, within, ne-eqb (x .wait) 1 e, eq-eqb (x .wait) 2 f)
 
-      pub reads-at-mailbox : x .wait ≢ 1 → x .wait ≢ 2 → wait-of x ≡ AtMailbox (x .object) (end-of (x .timed) (x .end))
+      pub reads-at-mailbox : x .wait ≢ 1 → x .wait ≢ 2 → wait-of x ≡ AtMailbox (x .object) (read-end (x .timed) (x .end))
       unfolding wait-of
       reads-at-mailbox e f = simp (ne-eqb (x .wait) 0 some, within, ne-eqb (x .wait) 1 e, ne-eqb (x .wait) 2 f)
 
@@ -82,7 +82,7 @@ unfolding wait-of
 reads-able x = go (eqb (x .wait) 0) (ltb 3 (x .wait) || ltb 1 (x .timed)) (eqb (x .wait) 1) (eqb (x .wait) 2)
   where
     go : (none beyond sending receiving : Bool)
-        → able (cond none NoWait (cond beyond nowhere (cond sending (Sending (x .object) (end-of (x .timed) (x .end)) (x .sending)) (cond receiving (Receiving (x .object) (end-of (x .timed) (x .end))) (AtMailbox (x .object) (end-of (x .timed) (x .end))))))) ≡ none
+        → able (cond none NoWait (cond beyond nowhere (cond sending (Sending (x .object) (read-end (x .timed) (x .end)) (x .sending)) (cond receiving (Receiving (x .object) (read-end (x .timed) (x .end))) (AtMailbox (x .object) (read-end (x .timed) (x .end))))))) ≡ none
     go true beyond sending receiving = refl
     go false true sending receiving = refl
     go false false true receiving = refl
@@ -95,12 +95,12 @@ reads-whether-able x = is-of (eqb (x .wait) 0) (λ e. reads-no-wait x (eqb-true 
 -- ── Its code ──
 
 -- The numbers of the codes that a wait ends with.
-pub ends-by-number : (n : ℕ) → Whether (T (ends-a-wait (code-of n))) (((eqb n 0 || eqb n 49) || eqb n 50) || eqb n 51)
-unfolding code-of one-of
+pub ends-by-number : (n : ℕ) → Whether (T (ends-a-wait (read-code n))) (((eqb n 0 || eqb n 49) || eqb n 50) || eqb n 51)
+unfolding read-code one-of
 ends-by-number n = is-map (⊎-elim (⊎-elim (⊎-elim (one 0 tt) (one 49 tt)) (one 50 tt)) (one 51 tt)) back (is-or (is-or (is-or (is-eqb n 0) (is-eqb n 49)) (is-eqb n 50)) (is-eqb n 51))
   where
-    one : (k : ℕ) → T (ends-a-wait (code-of k)) → n ≡ k → T (ends-a-wait (code-of n))
-    one k t e = subst (λ j. T (ends-a-wait (code-of j))) (sym e) t
+    one : (k : ℕ) → T (ends-a-wait (read-code k)) → n ≡ k → T (ends-a-wait (read-code n))
+    one k t e = subst (λ j. T (ends-a-wait (read-code j))) (sym e) t
 
     split : (a b c d : Bool) → T (a || (b || (c || (d || false)))) → ((T a ⊎ T b) ⊎ T c) ⊎ T d
     split true b c d t = inl (inl (inl tt))
@@ -112,6 +112,6 @@ ends-by-number n = is-map (⊎-elim (⊎-elim (⊎-elim (one 0 tt) (one 49 tt)) 
     is : (k : ℕ) → T (eqb n k) → n ≡ k
     is k = passed-test (is-eqb n k)
 
-    back : T (ends-a-wait (code-of n)) → ((n ≡ 0 ⊎ n ≡ 49) ⊎ n ≡ 50) ⊎ n ≡ 51
+    back : T (ends-a-wait (read-code n)) → ((n ≡ 0 ⊎ n ≡ 49) ⊎ n ≡ 50) ⊎ n ≡ 51
     back t = ⊎-elim (λ s. inl (⊎-elim (λ u. inl (⊎-elim (λ v. inl (is 0 v)) (λ v. inr (is 49 v)) u)) (λ u. inr (is 50 u)) s)) (λ s. inr (is 51 s))
         (split (eqb n 0) (eqb n 49) (eqb n 50) (eqb n 51) (task-numbers-code n t))

@@ -19,8 +19,8 @@ use Rattle.cells.specs.declared.TaskCells.{TaskCells}
 
 -- ── Read ──
 
-abbrev pub end-of : ℕ → ℕ → End
-end-of timed tick = cond (eqb timed 0) Never (At tick)
+abbrev pub read-end : ℕ → ℕ → End
+read-end timed tick = cond (eqb timed 0) Never (At tick)
 
 -- A wait at a data queue that there isn't: nobody waits so in a sound record.
 abbrev pub nowhere : Wait
@@ -34,11 +34,11 @@ unfoldable pub wait-of : TaskCells → Wait
 wait-of x =
     cond (eqb (x .wait) 0) NoWait
     (cond (ltb 3 (x .wait) || ltb 1 (x .timed)) nowhere
-    (wait-with (x .wait) (x .object) (end-of (x .timed) (x .end)) (x .sending)))
+    (wait-with (x .wait) (x .object) (read-end (x .timed) (x .end)) (x .sending)))
 
 -- The code with this number, but for its sign. A number that no code has reads as E_SYS, which isn't stored with a defined task of a sound record.
-unfoldable pub code-of : ℕ → Code
-code-of n =
+unfoldable pub read-code : ℕ → Code
+read-code n =
     cond (eqb n 0) Ok
     (cond (eqb n 17) Par
     (cond (eqb n 18) Id
@@ -59,7 +59,7 @@ abbrev pub suspended-by : ℕ → Bool
 suspended-by flags = ltb 1 flags
 
 unfoldable pub read-task : TaskCells → Task
-read-task x = record { wait = wait-of x; word = x .word; code = code-of (x .code); defined = defined-by (x .flags); suspended = suspended-by (x .flags) }
+read-task x = record { wait = wait-of x; word = x .word; code = read-code (x .code); defined = defined-by (x .flags); suspended = suspended-by (x .flags) }
 
 -- Every number of a task's record says something, as is shown of a sound record (crate record, Numbers.antt). A wait's numbers are used only where there is one, the code only of a task that is defined.
 pub record TaskNumbers (x : TaskCells) : Type 0 where

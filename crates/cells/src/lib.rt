@@ -2,7 +2,7 @@
 // a program in C a tag or a Boolean is a byte that may hold anything; so every cell is a number, and every number is read as something.
 ghost use mathlib.Core.Path.{_≡_};
 ghost use Rattle.model.specs.Waits.{wait-number, wait-object, held-word, wait-end};
-ghost use Rattle.cells.specs.Tasks.{end-of, wait-of, code-of, defined-by, suspended-by, read-task, code-byte, timed-of, tick-of, flags-of, write-task};
+ghost use Rattle.cells.specs.Tasks.{read-end, wait-of, read-code, defined-by, suspended-by, read-task, code-byte, timed-of, tick-of, flags-of, write-task};
 ghost use Rattle.cells.specs.Objects.{flag, read-queue, write-queue, read-mailbox, write-mailbox};
 use model::Code;
 use model::End;
@@ -40,8 +40,8 @@ pub struct TaskCells {
     pub flags: u8,
 }
 
-fn end_of(timed: u8, tick: u32) -> End
-    ensures { λ r. ⌜ r ≡ end-of timed tick ⌝ }
+fn read_end(timed: u8, tick: u32) -> End
+    ensures { λ r. ⌜ r ≡ read-end timed tick ⌝ }
 {
     if timed == 0 {
         return End::Never;
@@ -66,7 +66,7 @@ fn wait_of(cells: TaskCells) -> Wait
             word: 0,
         };
     }
-    let end = end_of(timed, cells.end);
+    let end = read_end(timed, cells.end);
     if wait == 1 {
         return Wait::Sending {
             queue: object,
@@ -84,8 +84,8 @@ fn wait_of(cells: TaskCells) -> Wait
 }
 
 // The code with this number. A number that no code has reads as E_SYS, which no sound record stores for a task that is defined.
-fn code_of(number: u8) -> Code
-    ensures { λ r. ⌜ r ≡ code-of number ⌝ }
+fn read_code(number: u8) -> Code
+    ensures { λ r. ⌜ r ≡ read-code number ⌝ }
 {
     match number {
         0 => Code::Ok,
@@ -120,7 +120,7 @@ pub fn read_task(cells: TaskCells) -> Task
     ensures { λ r. ⌜ r ≡ read-task cells ⌝ }
 {
     let wait = wait_of(cells);
-    let code = code_of(cells.code);
+    let code = read_code(cells.code);
     let flags = cells.flags;
     Task {
         wait,

@@ -40,10 +40,10 @@ use Rattle.waits.specs.Waiting.{chain-list, Cleared, AllEnded}
 use Rattle.waits.proofs.Laws.{rows-of, chain-of-queue}
 use Rattle.queue_bodies.proofs.Laws.{words-are, on-senders, on-receivers, senders-chain, receivers-chain}
 use Rattle.queue_bodies.specs.Bodies.{AtQueue, CanWait, when-full, FullReady, when-empty, EmptyReady}
-use Rattle.queue_bodies.specs.declared.Full.{Full}
-use Rattle.queue_bodies.specs.declared.Full.the-variants as full
-use Rattle.queue_bodies.specs.declared.Empty.{Empty}
-use Rattle.queue_bodies.specs.declared.Empty.the-variants as empty
+use Rattle.queue_bodies.specs.declared.IfFull.{IfFull}
+use Rattle.queue_bodies.specs.declared.IfFull.the-variants as if-full
+use Rattle.queue_bodies.specs.declared.IfEmpty.{IfEmpty}
+use Rattle.queue_bodies.specs.declared.IfEmpty.the-variants as if-empty
 
 module _ {n : ℕ} {s : State} {c : Call} (a : Accepted n s c) where
   can-wait : T (task-only (numbered n c)) → CanWait s (c .caller)
@@ -60,13 +60,13 @@ module _ {n : ℕ} {s : State} {c : Call} (a : Accepted n s c) where
 -- ── Sending ──
 
 -- What a send asks of its body, and that the body's program is the call's.
-pub record SendsAs (s : State) (c : Call) (how : Full) (call : Environment → View → Call → Effect) : Type 0 where
+pub record SendsAs (s : State) (c : Call) (how : IfFull) (call : Environment → View → Call → Effect) : Type 0 where
   pub at : AtQueue s (c .object)
   pub ready : FullReady s (c .object) how
   pub does : {r : Step} → Does (send (c .object) (abs s .rows (queue (c .object))) (c .value) (when-full s (c .object) (c .value) how)) s r → Performs call s c r
 
 module _ {s : State} {c : Call} where
-  pub sends-4 : Accepted 4 s c → SendsAs s c (full.Wait (c .caller) Never) snd-dtq
+  pub sends-4 : Accepted 4 s c → SendsAs s c (if-full.Wait (c .caller) Never) snd-dtq
   unfolding one-of exists
   sends-4 a = record {
     at = already a tt tt (λ t. t);
@@ -74,11 +74,11 @@ module _ {s : State} {c : Call} where
     does = λ d. performs a snd-dtq (rw (the-queue-is a tt, caller-is a tt) d);
   }
 
-  pub sends-5 : Accepted 5 s c → SendsAs s c full.Refuse psnd-dtq
+  pub sends-5 : Accepted 5 s c → SendsAs s c if-full.Refuse psnd-dtq
   unfolding one-of exists
   sends-5 a = record { at = already a tt tt (λ t. t); ready = tt; does = λ d. performs a psnd-dtq (rw (the-queue-is a tt) d) }
 
-  pub sends-6 : Accepted 6 s c → SendsAs s c (full.Wait (c .caller) (end-of (s .counter) (c .tmout))) tsnd-dtq
+  pub sends-6 : Accepted 6 s c → SendsAs s c (if-full.Wait (c .caller) (end-of (s .counter) (c .tmout))) tsnd-dtq
   unfolding one-of exists
   sends-6 a = record {
     at = already a tt tt (λ t. t);
@@ -86,7 +86,7 @@ module _ {s : State} {c : Call} where
     does = λ d. performs a tsnd-dtq (rw (the-queue-is a tt, caller-is a tt, counter-of s) d);
   }
 
-  pub sends-7 : Accepted 7 s c → SendsAs s c full.Replace fsnd-dtq
+  pub sends-7 : Accepted 7 s c → SendsAs s c if-full.Replace fsnd-dtq
   unfolding one-of exists
   sends-7 a = record {
     at = already a tt tt (λ t. t);
@@ -96,13 +96,13 @@ module _ {s : State} {c : Call} where
 
 -- ── Receiving ──
 
-pub record ReceivesAs (s : State) (c : Call) (how : Empty) (call : Environment → View → Call → Effect) : Type 0 where
+pub record ReceivesAs (s : State) (c : Call) (how : IfEmpty) (call : Environment → View → Call → Effect) : Type 0 where
   pub at : AtQueue s (c .object)
   pub ready : EmptyReady s how
   pub does : {r : Step} → Does (receive (c .object) (abs s .rows (queue (c .object))) (when-empty s (c .object) how)) s r → Performs call s c r
 
 module _ {s : State} {c : Call} where
-  pub receives-8 : Accepted 8 s c → ReceivesAs s c (empty.Wait (c .caller) Never) rcv-dtq
+  pub receives-8 : Accepted 8 s c → ReceivesAs s c (if-empty.Wait (c .caller) Never) rcv-dtq
   unfolding one-of exists
   receives-8 a = record {
     at = already a tt tt (λ t. t);
@@ -110,11 +110,11 @@ module _ {s : State} {c : Call} where
     does = λ d. performs a rcv-dtq (rw (the-queue-is a tt, caller-is a tt) d);
   }
 
-  pub receives-9 : Accepted 9 s c → ReceivesAs s c empty.Refuse prcv-dtq
+  pub receives-9 : Accepted 9 s c → ReceivesAs s c if-empty.Refuse prcv-dtq
   unfolding one-of exists
   receives-9 a = record { at = already a tt tt (λ t. t); ready = tt; does = λ d. performs a prcv-dtq (rw (the-queue-is a tt) d) }
 
-  pub receives-10 : Accepted 10 s c → ReceivesAs s c (empty.Wait (c .caller) (end-of (s .counter) (c .tmout))) trcv-dtq
+  pub receives-10 : Accepted 10 s c → ReceivesAs s c (if-empty.Wait (c .caller) (end-of (s .counter) (c .tmout))) trcv-dtq
   unfolding one-of exists
   receives-10 a = record {
     at = already a tt tt (λ t. t);
@@ -138,7 +138,7 @@ module _ {s : State} {c : Call} where
       (u .1, u .2)
 
   pub creates-queue : (a : Accepted 2 s c) {y : Answer} {r : Ring} {cells : QueueCells} → cells ≡ write-queue (record { defined = true; attribute = c .attribute; ring = r })
-      → ring.Empty (c .value) r → y ≡ finished E-OK 0 0 0 → Performs cre-dtq s c (record { state = with-queue (c .object) cells s; answer = y })
+      → ring.NoWordStored (c .value) r → y ≡ finished E-OK 0 0 0 → Performs cre-dtq s c (record { state = with-queue (c .object) cells s; answer = y })
   creates-queue a {cells = cells} f e ok = does (after-put (after-return (
     meaning (ap (λ (x : QueueRow). update same-key (queue (c .object)) x (abs s .rows)) (rw (none-before a .0, none-before a .1, e .words-are, e .kept .capacity-is) refl))
         (queue-changed (a .sound .readable) (c .object) (created a .2) cells (queue-written f) (λ d. e .kept .in-range)),
@@ -155,7 +155,7 @@ module _ {s : State} {c : Call} where
 
   -- The waits end, and what is left of the program makes the queue undefined.
   pub deletes-queue : (a : Accepted 3 s c) {u w : State} {y : Answer} {r : Ring} {cells : QueueCells} → cells ≡ write-queue (record { defined = false; attribute = 0; ring = r })
-      → AllEnded s (c .object) E-DLT u → AllEnded u (16 + c .object) E-DLT w → ring.Empty 0 r → y ≡ finished E-OK 0 0 0
+      → AllEnded s (c .object) E-DLT u → AllEnded u (16 + c .object) E-DLT w → ring.NoWordStored 0 r → y ≡ finished E-OK 0 0 0
       → Performs del-dtq s c (record { state = with-queue (c .object) cells w; answer = y })
   unfolding one-of
   deletes-queue a {u} {w} {y} {r} {cells} written e f none ok = performs a del-dtq (rw (the-queue-is a tt) (does-rest run-is (B .counter-is ∙ A .counter-is) (does (after-put (after-return (b, ok))))))

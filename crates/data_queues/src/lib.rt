@@ -9,8 +9,8 @@ use parts::Queue;
 use parts::RECEIVERS;
 use parts::TASK_CHAINS;
 use parts::TASKS;
-use queue_bodies::Empty;
-use queue_bodies::Full;
+use queue_bodies::IfEmpty;
+use queue_bodies::IfFull;
 use record::State;
 use record::Step;
 use ring::Ring;
@@ -65,18 +65,18 @@ impl DataQueues {
         requires { ⌜ Accepted 4 (self .state) call ⌝ }
         ensures { λ r. ⌜ Performs snd-dtq (self .state) call r ⌝ }
     {
-        let full = Full::Wait {
+        let otherwise = IfFull::Wait {
             me: call.caller,
             end: End::Never,
         };
-        queue_bodies::send(self.state, call.object, call.value, full)
+        queue_bodies::send(self.state, call.object, call.value, otherwise)
     }
 
     pub fn psnd_dtq(self, call: Call) -> Step
         requires { ⌜ Accepted 5 (self .state) call ⌝ }
         ensures { λ r. ⌜ Performs psnd-dtq (self .state) call r ⌝ }
     {
-        queue_bodies::send(self.state, call.object, call.value, Full::Refuse)
+        queue_bodies::send(self.state, call.object, call.value, IfFull::Refuse)
     }
 
     pub fn tsnd_dtq(self, call: Call) -> Step
@@ -85,36 +85,36 @@ impl DataQueues {
     {
         let state = self.state;
         let end = waits::end_of(state.counter, call.tmout);
-        let full = Full::Wait {
+        let otherwise = IfFull::Wait {
             me: call.caller,
             end,
         };
-        queue_bodies::send(state, call.object, call.value, full)
+        queue_bodies::send(state, call.object, call.value, otherwise)
     }
 
     pub fn fsnd_dtq(self, call: Call) -> Step
         requires { ⌜ Accepted 7 (self .state) call ⌝ }
         ensures { λ r. ⌜ Performs fsnd-dtq (self .state) call r ⌝ }
     {
-        queue_bodies::send(self.state, call.object, call.value, Full::Replace)
+        queue_bodies::send(self.state, call.object, call.value, IfFull::Replace)
     }
 
     pub fn rcv_dtq(self, call: Call) -> Step
         requires { ⌜ Accepted 8 (self .state) call ⌝ }
         ensures { λ r. ⌜ Performs rcv-dtq (self .state) call r ⌝ }
     {
-        let empty = Empty::Wait {
+        let otherwise = IfEmpty::Wait {
             me: call.caller,
             end: End::Never,
         };
-        queue_bodies::receive(self.state, call.object, empty)
+        queue_bodies::receive(self.state, call.object, otherwise)
     }
 
     pub fn prcv_dtq(self, call: Call) -> Step
         requires { ⌜ Accepted 9 (self .state) call ⌝ }
         ensures { λ r. ⌜ Performs prcv-dtq (self .state) call r ⌝ }
     {
-        queue_bodies::receive(self.state, call.object, Empty::Refuse)
+        queue_bodies::receive(self.state, call.object, IfEmpty::Refuse)
     }
 
     pub fn trcv_dtq(self, call: Call) -> Step
@@ -123,11 +123,11 @@ impl DataQueues {
     {
         let state = self.state;
         let end = waits::end_of(state.counter, call.tmout);
-        let empty = Empty::Wait {
+        let otherwise = IfEmpty::Wait {
             me: call.caller,
             end,
         };
-        queue_bodies::receive(state, call.object, empty)
+        queue_bodies::receive(state, call.object, otherwise)
     }
 
     // The head sender, the head receiver and how many words are stored.

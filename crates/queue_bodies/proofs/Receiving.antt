@@ -15,7 +15,7 @@ use Rattle.rows.specs.Program as Program
 use Rattle.rows.specs.Program.{update, run}
 use Rattle.rows.proofs.Update.{update-same}
 use Rattle.rows.proofs.Run.{run-yes, run-no}
-use Rattle.ring.specs.Ring.{stored, Pushed, Popped}
+use Rattle.ring.specs.Ring.{stored, Pushed, OldestPopped}
 use Rattle.ring.specs.declared.Ring.{Ring}
 use Rattle.model.specs.Sizes.{task-limit}
 use Rattle.model.specs.Rows.{Key, task, suspension, queue, mailbox, message, same-key, Row, TaskRow, QueueRow, Effect, with-words, with-senders, with-receivers}
@@ -74,7 +74,7 @@ module _ {s : State} {q : ℕ} (a : AtQueue s q) where
         ∙ ap (λ t. held-word (abs s .rows (task t) .wait)) head-is
 
   -- A popped ring has room.
-  pub room-again : {word : ℕ} {r : Ring} → Popped (cell .ring) word r → length (stored r) < r .capacity
+  pub room-again : {word : ℕ} {r : Ring} → OldestPopped (cell .ring) word r → length (stored r) < r .capacity
   room-again {word} {r} p =
       let count : length (stored (cell .ring)) ≤ cell .ring .capacity = rw (words-are a, capacity-is a) at (rows-of (a .sound) .queues q .count) in
       let n = ap length (p .words-were) in
@@ -82,7 +82,7 @@ module _ {s : State} {q : ℕ} (a : AtQueue s q) where
       omega arith
 
   -- The oldest word, and those behind it.
-  module _ {word : ℕ} {r : Ring} (p : Popped (cell .ring) word r) where
+  module _ {word : ℕ} {r : Ring} (p : OldestPopped (cell .ring) word r) where
     oldest-is : headD (x .words) 0 ≡ word
     unfolding headD
     oldest-is = rw (words-are a, p .words-were) refl

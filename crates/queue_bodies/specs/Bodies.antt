@@ -11,10 +11,10 @@ use Rattle.model.specs.declared.Wait.the-variants.{NoWait}
 use Rattle.record.specs.declared.State.{State}
 use Rattle.record.specs.Meaning.{abs}
 use Rattle.record.specs.Sound.{Sound}
-use Rattle.queue_bodies.specs.declared.Full.{Full}
-use Rattle.queue_bodies.specs.declared.Full.the-variants as full
-use Rattle.queue_bodies.specs.declared.Empty.{Empty}
-use Rattle.queue_bodies.specs.declared.Empty.the-variants as empty
+use Rattle.queue_bodies.specs.declared.IfFull.{IfFull}
+use Rattle.queue_bodies.specs.declared.IfFull.the-variants as if-full
+use Rattle.queue_bodies.specs.declared.IfEmpty.{IfEmpty}
+use Rattle.queue_bodies.specs.declared.IfEmpty.the-variants as if-empty
 
 -- A sound record, and the number of a data queue that is defined in it.
 pub record AtQueue (s : State) (q : ℕ) : Type 0 where
@@ -28,21 +28,21 @@ pub record CanWait (s : State) (me : ℕ) : Type 0 where
   pub able : abs s .rows (task me) .wait ≡ NoWait
 
 -- The program of each choice at a full queue, and what it asks.
-abbrev pub when-full : State → ℕ → ℕ → Full → Effect
-when-full s q word full.Refuse = refused-at-step-7
-when-full s q word (full.Wait me end) = wait-to-send q (abs s .rows (queue q)) me (abs s .rows (task me)) word end
-when-full s q word full.Replace = replace-oldest q (abs s .rows (queue q)) word
+abbrev pub when-full : State → ℕ → ℕ → IfFull → Effect
+when-full s q word if-full.Refuse = refused-at-step-7
+when-full s q word (if-full.Wait me end) = wait-to-send q (abs s .rows (queue q)) me (abs s .rows (task me)) word end
+when-full s q word if-full.Replace = replace-oldest q (abs s .rows (queue q)) word
 
-abbrev pub FullReady : State → ℕ → Full → Type 0
-FullReady s q full.Refuse = Unit
-FullReady s q (full.Wait me end) = CanWait s me
-FullReady s q full.Replace = T (empty (abs s .rows (queue q) .receivers)) → T (not (eqb (abs s .rows (queue q) .capacity) 0))
+abbrev pub FullReady : State → ℕ → IfFull → Type 0
+FullReady s q if-full.Refuse = Unit
+FullReady s q (if-full.Wait me end) = CanWait s me
+FullReady s q if-full.Replace = T (empty (abs s .rows (queue q) .receivers)) → T (not (eqb (abs s .rows (queue q) .capacity) 0))
 
 -- The same where there is no word to be had.
-abbrev pub when-empty : State → ℕ → Empty → Effect
-when-empty s q empty.Refuse = refused-at-step-7
-when-empty s q (empty.Wait me end) = wait-to-receive q (abs s .rows (queue q)) me (abs s .rows (task me)) end
+abbrev pub when-empty : State → ℕ → IfEmpty → Effect
+when-empty s q if-empty.Refuse = refused-at-step-7
+when-empty s q (if-empty.Wait me end) = wait-to-receive q (abs s .rows (queue q)) me (abs s .rows (task me)) end
 
-abbrev pub EmptyReady : State → Empty → Type 0
-EmptyReady s empty.Refuse = Unit
-EmptyReady s (empty.Wait me end) = CanWait s me
+abbrev pub EmptyReady : State → IfEmpty → Type 0
+EmptyReady s if-empty.Refuse = Unit
+EmptyReady s (if-empty.Wait me end) = CanWait s me

@@ -20,14 +20,14 @@ use record::State;
 use record::Step;
 
 // What a send does at a full queue where no receiver waits: psnd and a tmout of 0 are refused, snd and tsnd wait, fsnd replaces the oldest word.
-pub enum Full {
+pub enum IfFull {
     Refuse,
     Wait { me: u8, end: End },
     Replace,
 }
 
 // What a receive does where there is no word to be had.
-pub enum Empty {
+pub enum IfEmpty {
     Refuse,
     Wait { me: u8, end: End },
 }
@@ -97,9 +97,9 @@ fn wait_to_send(state: State, q: u8, me: u8, word: u32, end: End) -> Step
 }
 
 // A send in its three cases, in order.
-pub fn send(state: State, q: u8, word: u32, full: Full) -> Step
-    requires { ⌜ AtQueue state q × FullReady state q full ⌝ }
-    ensures { λ r. ⌜ Does (send q (abs state .rows (queue q)) word (when-full state q word full)) state r ⌝ }
+pub fn send(state: State, q: u8, word: u32, otherwise: IfFull) -> Step
+    requires { ⌜ AtQueue state q × FullReady state q otherwise ⌝ }
+    ensures { λ r. ⌜ Does (send q (abs state .rows (queue q)) word (when-full state q word otherwise)) state r ⌝ }
 {
     let i = q as usize;
     if chain::first(&state.waiting.link, TASKS, TASK_CHAINS, RECEIVERS + i) != 0 {
@@ -110,13 +110,13 @@ pub fn send(state: State, q: u8, word: u32, full: Full) -> Step
     if ring.length() < ring.capacity() {
         return store(state, i, word);
     }
-    match full {
-        Full::Refuse => {
+    match otherwise {
+        IfFull::Refuse => {
             let answer = record::finished(Code::Tmout, 0, 0, 0);
             Step { state, answer }
         }
-        Full::Wait { me, end } => wait_to_send(state, q, me, word, end),
-        Full::Replace => replace_oldest(state, i, word),
+        IfFull::Wait { me, end } => wait_to_send(state, q, me, word, end),
+        IfFull::Replace => replace_oldest(state, i, word),
     }
 }
 
@@ -192,9 +192,9 @@ fn wait_to_receive(state: State, q: u8, me: u8, end: End) -> Step
 }
 
 // A receive in its cases, in order.
-pub fn receive(state: State, q: u8, empty: Empty) -> Step
-    requires { ⌜ AtQueue state q × EmptyReady state empty ⌝ }
-    ensures { λ r. ⌜ Does (receive q (abs state .rows (queue q)) (when-empty state q empty)) state r ⌝ }
+pub fn receive(state: State, q: u8, otherwise: IfEmpty) -> Step
+    requires { ⌜ AtQueue state q × EmptyReady state otherwise ⌝ }
+    ensures { λ r. ⌜ Does (receive q (abs state .rows (queue q)) (when-empty state q otherwise)) state r ⌝ }
 {
     let i = q as usize;
     let queue = cells::read_queue(state.queues[i]);
@@ -209,11 +209,11 @@ pub fn receive(state: State, q: u8, empty: Empty) -> Step
     if sender != 0 {
         return take_from_sender(state, i);
     }
-    match empty {
-        Empty::Refuse => {
+    match otherwise {
+        IfEmpty::Refuse => {
             let answer = record::finished(Code::Tmout, 0, 0, 0);
             Step { state, answer }
         }
-        Empty::Wait { me, end } => wait_to_receive(state, q, me, end),
+        IfEmpty::Wait { me, end } => wait_to_receive(state, q, me, end),
     }
 }

@@ -11,7 +11,7 @@ use Rattle.lists.proofs.Reading.{all-same}
 use Rattle.chain.specs.Table.{lists}
 use Rattle.chain.specs.Changes.{New}
 use Rattle.chain.proofs.Standing.{stands-nowhere}
-use Rattle.ring.specs.Ring.{Empty}
+use Rattle.ring.specs.Ring.{NoWordStored}
 use Rattle.ring.specs.declared.Ring.{Ring}
 use Rattle.model.specs.Sizes.{task-limit, queue-limit, message-limit}
 use Rattle.model.specs.Rows.{Key, task, suspension, queue, mailbox, message, valid, nothing, empty-state}
@@ -22,7 +22,7 @@ use Rattle.model.specs.declared.Code.the-variants.{Ok}
 use Rattle.model.specs.declared.Wait.the-variants.{NoWait}
 use Rattle.parts.specs.Chains.{task-chains, message-chains, chain-number, tasks-in, messages-in}
 use Rattle.parts.specs.declared.Task.{Task}
-use Rattle.cells.specs.Tasks.{wait-of, code-of, read-task}
+use Rattle.cells.specs.Tasks.{wait-of, read-code, read-task}
 use Rattle.cells.specs.Objects.{read-queue, read-mailbox}
 use Rattle.cells.specs.declared.QueueCells.{QueueCells}
 use Rattle.model.proofs.Tests.{from-within}
@@ -43,7 +43,7 @@ pub record Blank (r : Ring) (s : State) : Type 0 where
   pub mailboxes : s .mailboxes ≡ replicate 17 no-mailbox-cells
   pub messages : New (s .messages .link) (s .messages .key)
 
-module _ (s : State) (r : Ring) (empty : Empty 0 r) (b : Blank r s) where
+module _ (s : State) (r : Ring) (empty : NoWordStored 0 r) (b : Blank r s) where
   no-tasks-in : (k : WaitQueue) → tasks-in (s .waiting .link) k ≡ []
   unfolding tasks-in
   no-tasks-in k = rw (b .waiting .lists-are task-limit task-chains (omega arith) (omega arith)) (all-same [] (suc task-chains) (chain-number k))
@@ -57,7 +57,7 @@ module _ (s : State) (r : Ring) (empty : Empty 0 r) (b : Blank r s) where
   in-no-mailbox g = stands-nowhere g (lists message-limit message-chains (s .messages .link)) (λ x i. List·Memᴰ·not-nil (rw (no-messages-in x) at i))
 
   no-task : (t : ℕ) → task-at s t ≡ record { defined = false; suspended = false; wait = NoWait; code = Ok; word = 0 }
-  unfolding read-task wait-of code-of
+  unfolding read-task wait-of read-code
   no-task t = rw (b .tasks) (ap read-task (all-same no-task-cells 33 t))
 
   no-queue : (q : ℕ) → T (valid (queue q)) → queue-at s q ≡ record { defined = false; attribute = 0; ring = r }

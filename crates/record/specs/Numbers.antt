@@ -9,10 +9,10 @@ use Rattle.record.specs.Meaning.{no-task-cells, no-queue-cells, no-mailb
 use Rattle.record.specs.Sound.{Sound}
 
 -- Cells of number 0 may hold anything.
-pub record NumbersInRange (s : State) : Type 0 where
+pub record NumbersSaySomething (s : State) : Type 0 where
   pub tasks : (t : ℕ) → T (valid (task t)) → TaskNumbers (getD (s .tasks) t no-task-cells)
   pub queues : (q : ℕ) → T (valid (queue q)) → getD (s .queues) q no-queue-cells .defined ≤ 1
   pub mailboxes : (b : ℕ) → T (valid (mailbox b)) → getD (s .mailboxes) b no-mailbox-cells .defined ≤ 1
 
 abbrev pub SoundInRange : Type 0
-SoundInRange = (s : State) → Sound s → NumbersInRange s
+SoundInRange = (s : State) → Sound s → NumbersSaySomething s

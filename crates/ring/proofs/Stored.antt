@@ -8,7 +8,7 @@ use borrow.Author.Needs.{needs}
 use lib.ListN.{length, getD, set}
 use lib.Seq.{getD-set-same, getD-set-other}
 use Rattle.lists.specs.Lists.{ascending}
-use Rattle.ring.specs.Ring.{places, further, words-from, stored, InRange, Pushed, Popped, Replaced}
+use Rattle.ring.specs.Ring.{places, further, words-from, stored, InRange, Pushed, OldestPopped, Replaced}
 use Rattle.ring.specs.declared.Ring.{Ring}
 use Rattle.ring.proofs.Places.{further-is-place}
 use Rattle.ring.proofs.Words.{length-words, words-agree, words-newest, words-oldest}
@@ -48,7 +48,7 @@ pushed {s} {r} {word} at within room sized here written same-head one-more same-
 
 -- With the next place as the head, and one word less counted, the word at the old head is taken out.
 pub popped : {s r : Ring} {word : ℕ} → InRange s → word ≡ getD (s .words) (s .head) 0 → r .words ≡ s .words
-    → r .head ≡ further places (s .head) 1 → r .count + 1 ≡ s .count → r .capacity ≡ s .capacity → Popped s word r
+    → r .head ≡ further places (s .head) 1 → r .count + 1 ≡ s .count → r .capacity ≡ s .capacity → OldestPopped s word r
 unfolding stored
 popped {s} {r} within oldest same-words next-head one-less same-capacity =
     let next = further-is-place places (s .head) 1 (omega arith) in
@@ -58,7 +58,7 @@ popped {s} {r} within oldest same-words next-head one-less same-capacity =
     }
 
 -- One word taken out, and another stored.
-pub replaced : {s r t : Ring} {oldest word : ℕ} → Popped s oldest r → Pushed r word t → Replaced s word t
+pub replaced : {s r t : Ring} {oldest word : ℕ} → OldestPopped s oldest r → Pushed r word t → Replaced s word t
 replaced p q =
     record {
       words-are = rw (p .words-were) (q .words-are);

@@ -42,7 +42,7 @@ pub record Kept (capacity : ℕ) (r : Ring) : Type 0 where
   pub capacity-is : r .capacity ≡ capacity
 
 -- No word is stored.
-pub record Empty (capacity : ℕ) (r : Ring) : Type 0 where
+pub record NoWordStored (capacity : ℕ) (r : Ring) : Type 0 where
   pub words-are : stored r ≡ []
   pub kept : Kept capacity r
 
@@ -52,7 +52,7 @@ pub record Pushed (s : Ring) (word : ℕ) (r : Ring) : Type 0 where
   pub kept : Kept (s .capacity) r
 
 -- The word was the oldest, and those behind it are left.
-pub record Popped (s : Ring) (word : ℕ) (r : Ring) : Type 0 where
+pub record OldestPopped (s : Ring) (word : ℕ) (r : Ring) : Type 0 where
   pub words-were : stored s ≡ word ∷ stored r
   pub kept : Kept (s .capacity) r
 

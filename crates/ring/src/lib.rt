@@ -4,7 +4,7 @@ ghost use mathlib.Core.Path.{_≡_};
 ghost use Prim.Native.Nat.{_<_, _≤_};
 ghost use lib.ListN.{length};
 ghost use Rattle.lists.specs.Tests.{Whether};
-ghost use Rattle.ring.specs.Ring.{places, further, stored, NumbersInRange, InRange, Empty, Pushed, Popped, Replaced};
+ghost use Rattle.ring.specs.Ring.{places, further, stored, NumbersInRange, InRange, NoWordStored, Pushed, OldestPopped, Replaced};
 
 pub const PLACES: usize = 16;
 
@@ -51,7 +51,7 @@ impl Ring {
     // An empty ring.
     pub fn new(capacity: u8) -> Ring
         requires { ⌜ capacity ≤ places ⌝ }
-        ensures { λ r. ⌜ Empty capacity r ⌝ }
+        ensures { λ r. ⌜ NoWordStored capacity r ⌝ }
     {
         Ring {
             words: [0; PLACES],
@@ -90,7 +90,7 @@ impl Ring {
     // Takes the oldest word out. There is one.
     pub fn pop(mut self) -> Taken
         requires { ⌜ InRange self × (0 < length (stored self)) ⌝ }
-        ensures { λ r. ⌜ Popped self (r .word) (r .ring) ⌝ }
+        ensures { λ r. ⌜ OldestPopped self (r .word) (r .ring) ⌝ }
     {
         let head = self.head;
         let at = head as usize;

@@ -3,14 +3,14 @@ ghost use lib.Dec.{T};
 ghost use Rattle.lists.specs.Tests.{Whether};
 ghost use Rattle.model.specs.WellFormed.{ends-a-wait, EndAhead};
 ghost use Rattle.parts.specs.Tasks.{NamesChain, WaitSound, TaskSound};
-ghost use Rattle.cells.specs.Tasks.{end-of, wait-of, code-of, read-task};
+ghost use Rattle.cells.specs.Tasks.{read-end, wait-of, read-code, read-task};
 use cells::TaskCells;
 use parts::RECEIVERS;
 use parts::WAITERS;
 
 // Whether an end is ahead, and not too far.
 fn end_sound(timed: u8, tick: u32, counter: u32) -> bool
-    ensures { λ r. ⌜ Whether (EndAhead counter 1 (end-of timed tick)) r ⌝ }
+    ensures { λ r. ⌜ Whether (EndAhead counter 1 (read-end timed tick)) r ⌝ }
 {
     if timed == 0 {
         return true;
@@ -51,7 +51,7 @@ fn wait_sound(cells: TaskCells, standing: u8, counter: u32) -> bool
 
 // Whether a stored code is that of a wait that ended, or E_OK.
 fn code_sound(code: u8) -> bool
-    ensures { λ r. ⌜ Whether (T (ends-a-wait (code-of code))) r ⌝ }
+    ensures { λ r. ⌜ Whether (T (ends-a-wait (read-code code))) r ⌝ }
 {
     (code == 0) | (code == 49) | (code == 50) | (code == 51)
 }

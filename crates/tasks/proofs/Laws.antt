@@ -30,7 +30,7 @@ use Rattle.model.proofs.Checked.{task-priority, exists-already, task-waits}
 use Rattle.model.proofs.After.{after-return, after-put}
 use Rattle.parts.specs.Tasks.{task-row}
 use Rattle.parts.specs.declared.Task.{Task}
-use Rattle.cells.specs.Tasks.{end-of, nowhere, wait-with, wait-of, read-task, write-task}
+use Rattle.cells.specs.Tasks.{read-end, nowhere, wait-with, wait-of, read-task, write-task}
 use Rattle.cells.specs.declared.TaskCells.{TaskCells}
 use Rattle.cells.proofs.Faithful.{task-written}
 use Rattle.record.specs.declared.State.{State}
@@ -56,7 +56,7 @@ above-1 n = lt-ltb 1 (suc (suc n)) (omega arith)
 module _ (x : TaskCells) (counter : ℕ) where
   abbrev By-numbers : ℕ → ℕ → Type 0
   By-numbers wait timed = ((leb 1 wait && leb wait 3) && eqb timed 1) && eqb (x .end) counter
-      ≡ due counter (wait-end (cond (eqb wait 0) NoWait (cond (ltb 3 wait || ltb 1 timed) nowhere (wait-with wait (x .object) (end-of timed (x .end)) (x .sending)))))
+      ≡ due counter (wait-end (cond (eqb wait 0) NoWait (cond (ltb 3 wait || ltb 1 timed) nowhere (wait-with wait (x .object) (read-end timed (x .end)) (x .sending)))))
 
   no-such-wait : (wait timed : ℕ) → 3 < wait → By-numbers wait timed
   no-such-wait wait timed h = rw (le-leb 1 wait (omega arith), lt-leb wait 3 h, ne-eqb wait 0 (λ e. omega arith), lt-ltb 3 wait h) refl

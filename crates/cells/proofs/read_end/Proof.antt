@@ -1,7 +1,7 @@
--- `end_of` tells a wait without end by its 0.
+-- `read_end` tells a wait without end by its 0.
 use borrow.Author.Tests.{eq-eqb, ne-eqb}
-use Rattle.cells.proofs.end_of.Statement.{statement}
-use Rattle.cells.proofs.end_of.Tie as tie
+use Rattle.cells.proofs.read_end.Statement.{statement}
+use Rattle.cells.proofs.read_end.Tie as tie
 
 returns : tie.Need-returns
 returns c = simp (eq-eqb _ _ (c .if1 .taken))
@@ -9,5 +9,5 @@ returns c = simp (eq-eqb _ _ (c .if1 .taken))
 returns-2 : tie.Need-returns-2
 returns-2 c = simp (ne-eqb _ _ (c .if1 .left))
 
-pub end-of-spec : {M : Type 1} → statement M
-end-of-spec = tie.close (tie.spec returns returns-2)
+pub read-end-spec : {M : Type 1} → statement M
+read-end-spec = tie.close (tie.spec returns returns-2)

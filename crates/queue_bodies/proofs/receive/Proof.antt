@@ -64,13 +64,13 @@ enum-told c = search needs
 finished-requires : tie.Need-finished-requires
 finished-requires c κs = search needs
 
-enum-known-empty : tie.Need-enum-known-empty
-enum-known-empty c = search needs
+enum-known-otherwise : tie.Need-enum-known-otherwise
+enum-known-otherwise c = search needs
 
 wait-to-receive-requires : tie.Need-wait-to-receive-requires
 wait-to-receive-requires c κs =
     let start = c .before .before .before .before .before .before .before .before .before .before .before .before in
-    (start .pre .0, rw (c .before .empty .given .1) at (start .pre .1))
+    (start .pre .0, rw (c .before .otherwise .given .1) at (start .pre .1))
 
 returns-4 : tie.Need-returns-4
 returns-4 c =
@@ -84,7 +84,7 @@ returns-5 c =
     let none = c .before .before .before .before .before in
     let a = none .before .before .before .before .before .before .before .before .pre .0 in
     receives-otherwise a _ (nothing-stored a (rw (none .before .before .before .before .before .before .read-queue .ensures) at (none .before .length .ensures)) (none .if1 .left)) (no-sender a (none .before .before .first .ensures) (c .before .before .before .before .if3 .left))
-    (rw (c .before .before .empty .given .1) (c .wait-to-receive .ensures))
+    (rw (c .before .before .otherwise .given .1) (c .wait-to-receive .ensures))
 
 pub receive-spec : {M : Type 1} → statement M
 receive-spec =
@@ -103,7 +103,7 @@ receive-spec =
     returns-3
     enum-told
     finished-requires
-    enum-known-empty
+    enum-known-otherwise
     wait-to-receive-requires
     returns-4
     returns-5)

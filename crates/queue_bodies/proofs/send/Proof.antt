@@ -2,7 +2,7 @@
 use native.Mathlib.Omega.{arith}
 use Rattle.record.proofs.Laws.{stays}
 use Rattle.queue_bodies.specs.Bodies.{FullReady}
-use Rattle.queue_bodies.specs.declared.Full.the-variants.{Replace}
+use Rattle.queue_bodies.specs.declared.IfFull.the-variants.{Replace}
 use Rattle.waits.proofs.Laws.{has-chain}
 use borrow.Author.Needs.{needs}
 use Rattle.queue_bodies.proofs.Laws.{queue-range, queue-fits, queue-offset, on-receivers, has-room-now, no-room, full-words, no-receiver, some-receiver}
@@ -54,13 +54,13 @@ enum-told c = search needs
 finished-requires : tie.Need-finished-requires
 finished-requires c κs = search needs
 
-enum-known-full : tie.Need-enum-known-full
-enum-known-full c = search needs
+enum-known-otherwise : tie.Need-enum-known-otherwise
+enum-known-otherwise c = search needs
 
 wait-to-send-requires : tie.Need-wait-to-send-requires
 wait-to-send-requires c κs =
     let start = c .before .before .before .before .before .before .before .before .before .before .before .before .before in
-    (start .pre .0, rw (c .before .full .given .1) at (start .pre .1))
+    (start .pre .0, rw (c .before .otherwise .given .1) at (start .pre .1))
 
 enum-told-2 : tie.Need-enum-told-2
 enum-told-2 c = search needs
@@ -88,7 +88,7 @@ returns-4 c =
     let nobody = full .before .before .before .before .before .before in
     let a = nobody .before .before .before .before .pre .0 in
     sends-otherwise a _ _ (no-receiver a (nobody .before .first .ensures) (nobody .if1 .left))
-    (no-room a (rw (full .before .before .before .before .read-queue .ensures) at (full .before .before .length .ensures)) (rw (full .before .before .before .before .read-queue .ensures) at (full .before .capacity .ensures)) (full .if2 .left)) (rw (c .before .before .full .given .1) (c .wait-to-send .ensures))
+    (no-room a (rw (full .before .before .before .before .read-queue .ensures) at (full .before .before .length .ensures)) (rw (full .before .before .before .before .read-queue .ensures) at (full .before .capacity .ensures)) (full .if2 .left)) (rw (c .before .before .otherwise .given .1) (c .wait-to-send .ensures))
 
 returns-5 : tie.Need-returns-5
 returns-5 c =
@@ -115,7 +115,7 @@ send-spec =
     returns-2
     enum-told
     finished-requires
-    enum-known-full
+    enum-known-otherwise
     wait-to-send-requires
     enum-told-2
     replace-oldest-requires
