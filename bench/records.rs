@@ -1,4 +1,5 @@
 // Records for the soundness test of the kernel's state, with the answers that a naive reading of document 01, 'A sound record', gives for them.
+// The script bench/records runs both of these:
 // `records corpus STDIN STDOUT` writes a file of records, hand-made and random, and the file of the lines that are expected for them.
 // `records compare PROGRAM COUNT SEED` hands random records to a program and compares its lines with the naive reading. PROGRAM may have
 // arguments, with a space before each. The comparison also fails where one of the sentences was never the first that didn't hold, so COUNT
@@ -479,14 +480,13 @@ fn end_ticks_are_ahead(state: &State) -> Reading {
 // The errors' numbers; the stream has a code's place in this list.
 const CODES: [i32; 12] = [0, -5, -17, -18, -25, -28, -41, -42, -43, -49, -50, -51];
 
-// A record has 1,156 bytes, numbers with their lowest byte first: how often to test it (4 bytes), the label (60, zeros behind it), the
-// counter (4), the tasks (20 each), the table of waiting tasks (81 and 65), the data queues (5 each), the mailboxes (3 each), the table of
-// queued messages (81 and 65). Entry 0 of each is there too.
+// A record has 1,152 bytes, numbers with their lowest byte first: the label (60 bytes, zeros behind it), the counter (4), the tasks (20 each),
+// the table of waiting tasks (81 and 65), the data queues (5 each), the mailboxes (3 each), the table of queued messages (81 and 65). Entry 0
+// of each is there too.
 fn encode(label: &str, state: &State) -> Vec<u8> {
     assert!(label.is_ascii() && label.len() <= 60, "no label: {label}");
-    let mut bytes = 1u32.to_le_bytes().to_vec();
-    bytes.extend(label.bytes());
-    bytes.resize(64, 0);
+    let mut bytes = label.as_bytes().to_vec();
+    bytes.resize(60, 0);
     bytes.extend(state.counter.to_le_bytes());
     for task in &state.tasks {
         encode_task(&mut bytes, task);
@@ -502,7 +502,7 @@ fn encode(label: &str, state: &State) -> Vec<u8> {
     bytes.extend(state.messages.iter().map(|message| message.next));
     bytes.extend(state.mailboxes[1..].iter().map(|mailbox| mailbox.first_message));
     bytes.extend(state.messages.iter().map(|message| message.priority));
-    assert_eq!(bytes.len(), 1156);
+    assert_eq!(bytes.len(), 1152);
     bytes
 }
 

@@ -1,5 +1,4 @@
 // Reads records from standard input until no whole one is left, and prints for each whether the kernel's state that it describes is sound.
-// A record also says how many times the test is run, so that the test can be timed.
 ghost use Prim.Native.Nat.{_+_, _<_, _≤_};
 use cells::MailboxCells;
 use cells::QueueCells;
@@ -21,45 +20,42 @@ use ring::Ring;
 
 // A record's parts, each by the byte that it starts at. Numbers are little-endian.
 
-// How many times the test is run, a word; 0 counts as 1.
-const REPEAT: usize = 0;
-
 // Bytes up to the counter, or up to a zero byte.
-const LABEL: usize = 4;
+const LABEL_AT: usize = 0;
 
 // A word.
-const COUNTER: usize = 64;
+const COUNTER_AT: usize = 60;
 
 // Cells 0 to 32, 20 bytes each.
-const TASKS: usize = 68;
+const TASKS_AT: usize = 64;
 
 // The table of waiting tasks: its cells, then its keys.
-const WAITING: usize = 728;
+const WAITING_AT: usize = 724;
 
 // Cells 0 to 16, 5 bytes each.
-const QUEUES: usize = 874;
+const QUEUES_AT: usize = 870;
 
 // Cells 0 to 16, 3 bytes each.
-const MAILBOXES: usize = 959;
+const MAILBOXES_AT: usize = 955;
 
 // The table of queued messages: its cells, then its keys.
-const MESSAGES: usize = 1010;
+const MESSAGES_AT: usize = 1006;
 
 // The bytes of a whole record.
-const RECORD: usize = 1156;
+const RECORD: usize = 1152;
 
 // ── Numbers ──
 
 // One byte of a record.
 fn byte_at(record: &[u8; RECORD], at: usize) -> u8
-    requires { ⌜ at < 1156 ⌝ }
+    requires { ⌜ at < 1152 ⌝ }
 {
     record[at]
 }
 
 // A byte that stands for true where it isn't 0.
 fn flag_at(record: &[u8; RECORD], at: usize) -> bool
-    requires { ⌜ at < 1156 ⌝ }
+    requires { ⌜ at < 1152 ⌝ }
 {
     record[at] != 0
 }
@@ -71,7 +67,7 @@ fn wide(x: u8) -> u32 {
 
 // A word of four bytes, the lowest first.
 fn word_at(record: &[u8; RECORD], at: usize) -> u32
-    requires { ⌜ at + 4 ≤ 1156 ⌝ }
+    requires { ⌜ at + 4 ≤ 1152 ⌝ }
 {
     let low = wide(record[at]) | wide(record[at + 1]) << 8;
     let high = wide(record[at + 2]) << 16 | wide(record[at + 3]) << 24;
@@ -82,7 +78,7 @@ fn word_at(record: &[u8; RECORD], at: usize) -> u32
 
 // When the wait of the task at this byte ends.
 fn end_at(record: &[u8; RECORD], at: usize) -> End
-    requires { ⌜ at + 20 ≤ 1156 ⌝ }
+    requires { ⌜ at + 20 ≤ 1152 ⌝ }
 {
     if byte_at(record, at + 4) == 0 {
         return End::Never;
@@ -93,7 +89,7 @@ fn end_at(record: &[u8; RECORD], at: usize) -> End
 
 // What the task at this byte waits for.
 fn wait_at(record: &[u8; RECORD], at: usize) -> Wait
-    requires { ⌜ at + 20 ≤ 1156 ⌝ }
+    requires { ⌜ at + 20 ≤ 1152 ⌝ }
 {
     let kind = byte_at(record, at + 2);
     let object = byte_at(record, at + 3);
@@ -119,7 +115,7 @@ fn wait_at(record: &[u8; RECORD], at: usize) -> Wait
 }
 
 // The code of this number, in the order of the type.
-fn code_of(number: u8) -> Code {
+fn code_in_order(number: u8) -> Code {
     match number {
         0 => Code::Ok,
         1 => Code::Sys,
@@ -139,12 +135,12 @@ fn code_of(number: u8) -> Code {
 // A task's bytes are: defined, suspended, the wait's kind, its object, the end's kind, the stored code, and two that nothing uses. Then come
 // three words: the end's tick, the word that a sender holds, the stored word.
 fn task_at(record: &[u8; RECORD], at: usize) -> TaskCells
-    requires { ⌜ at + 20 ≤ 1156 ⌝ }
+    requires { ⌜ at + 20 ≤ 1152 ⌝ }
 {
     let defined = flag_at(record, at);
     let suspended = flag_at(record, at + 1);
     let wait = wait_at(record, at);
-    let code = code_of(byte_at(record, at + 5));
+    let code = code_in_order(byte_at(record, at + 5));
     let word = word_at(record, at + 16);
     cells::write_task(Task {
         defined,
@@ -157,11 +153,11 @@ fn task_at(record: &[u8; RECORD], at: usize) -> TaskCells
 
 // All tasks, and cell 0, in which anything may stand.
 fn tasks_of(record: &[u8; RECORD]) -> [TaskCells; 33] {
-    let first = task_at(record, TASKS);
+    let first = task_at(record, TASKS_AT);
     let mut tasks = [first; 33];
     let mut t: usize = 1;
     while t < 33 {
-        let task = task_at(record, TASKS + 20 * t);
+        let task = task_at(record, TASKS_AT + 20 * t);
         tasks[t] = task;
         t += 1;
     }
@@ -172,7 +168,7 @@ fn tasks_of(record: &[u8; RECORD]) -> [TaskCells; 33] {
 
 // A data queue's bytes are: defined, attribute, and its ring's head, count and capacity. Soundness asks nothing of the ring's words.
 fn queue_at(record: &[u8; RECORD], at: usize) -> QueueCells
-    requires { ⌜ at + 5 ≤ 1156 ⌝ }
+    requires { ⌜ at + 5 ≤ 1152 ⌝ }
 {
     let defined = flag_at(record, at);
     let attribute = byte_at(record, at + 1);
@@ -194,11 +190,11 @@ fn queue_at(record: &[u8; RECORD], at: usize) -> QueueCells
 
 // All data queues, and cell 0.
 fn queues_of(record: &[u8; RECORD]) -> [QueueCells; 17] {
-    let first = queue_at(record, QUEUES);
+    let first = queue_at(record, QUEUES_AT);
     let mut queues = [first; 17];
     let mut n: usize = 1;
     while n < 17 {
-        let queue = queue_at(record, QUEUES + 5 * n);
+        let queue = queue_at(record, QUEUES_AT + 5 * n);
         queues[n] = queue;
         n += 1;
     }
@@ -207,7 +203,7 @@ fn queues_of(record: &[u8; RECORD]) -> [QueueCells; 17] {
 
 // A mailbox's bytes are: defined, attribute, highest message priority.
 fn mailbox_at(record: &[u8; RECORD], at: usize) -> MailboxCells
-    requires { ⌜ at + 3 ≤ 1156 ⌝ }
+    requires { ⌜ at + 3 ≤ 1152 ⌝ }
 {
     let defined = flag_at(record, at);
     let attribute = byte_at(record, at + 1);
@@ -221,11 +217,11 @@ fn mailbox_at(record: &[u8; RECORD], at: usize) -> MailboxCells
 
 // All mailboxes, and cell 0.
 fn mailboxes_of(record: &[u8; RECORD]) -> [MailboxCells; 17] {
-    let first = mailbox_at(record, MAILBOXES);
+    let first = mailbox_at(record, MAILBOXES_AT);
     let mut mailboxes = [first; 17];
     let mut n: usize = 1;
     while n < 17 {
-        let mailbox = mailbox_at(record, MAILBOXES + 3 * n);
+        let mailbox = mailbox_at(record, MAILBOXES_AT + 3 * n);
         mailboxes[n] = mailbox;
         n += 1;
     }
@@ -236,7 +232,7 @@ fn mailboxes_of(record: &[u8; RECORD]) -> [MailboxCells; 17] {
 
 // The cells of a table.
 fn link_at(record: &[u8; RECORD], at: usize) -> [u8; CELLS]
-    requires { ⌜ at + 81 ≤ 1156 ⌝ }
+    requires { ⌜ at + 81 ≤ 1152 ⌝ }
 {
     let mut link = [0u8; CELLS];
     let mut i: usize = 0;
@@ -249,7 +245,7 @@ fn link_at(record: &[u8; RECORD], at: usize) -> [u8; CELLS]
 
 // The keys of a table.
 fn key_at(record: &[u8; RECORD], at: usize) -> [u8; KEY_CELLS]
-    requires { ⌜ at + 65 ≤ 1156 ⌝ }
+    requires { ⌜ at + 65 ≤ 1152 ⌝ }
 {
     let mut key = [0u8; KEY_CELLS];
     let mut i: usize = 0;
@@ -262,7 +258,7 @@ fn key_at(record: &[u8; RECORD], at: usize) -> [u8; KEY_CELLS]
 
 // A table: its cells, then its keys.
 fn chains_at(record: &[u8; RECORD], at: usize) -> Chains
-    requires { ⌜ at + 146 ≤ 1156 ⌝ }
+    requires { ⌜ at + 146 ≤ 1152 ⌝ }
 {
     let link = link_at(record, at);
     let key = key_at(record, at + CELLS);
@@ -273,12 +269,12 @@ fn chains_at(record: &[u8; RECORD], at: usize) -> Chains
 
 // The state that a record describes.
 fn state_of(record: &[u8; RECORD]) -> State {
-    let counter = word_at(record, COUNTER);
+    let counter = word_at(record, COUNTER_AT);
     let tasks = tasks_of(record);
-    let waiting = chains_at(record, WAITING);
+    let waiting = chains_at(record, WAITING_AT);
     let queues = queues_of(record);
     let mailboxes = mailboxes_of(record);
-    let messages = chains_at(record, MESSAGES);
+    let messages = chains_at(record, MESSAGES_AT);
     State {
         counter,
         tasks,
@@ -289,18 +285,6 @@ fn state_of(record: &[u8; RECORD]) -> State {
     }
 }
 
-// Runs the test `repeat` times, or once where that is 0, and tells whether every answer was true. The test is called in two places because
-// the compiler would put a function that is called in one place into its caller, and a profile would no longer show it.
-fn always_sound(state: State, repeat: u32) -> bool {
-    let mut sound = state.sound();
-    let mut left = repeat;
-    while 1 < left {
-        sound = state.sound() & sound;
-        left -= 1;
-    }
-    sound
-}
-
 // Writes a text to standard output.
 fn print(text: &[u8]) {
     io::write_all(STDOUT_FILENO, text);
@@ -308,21 +292,21 @@ fn print(text: &[u8]) {
 
 // Where a record's label ends.
 fn label_end(record: &[u8; RECORD]) -> usize
-    ensures { λ r. ⌜ (4 ≤ r) × (r ≤ 64) ⌝ }
+    ensures { λ r. ⌜ r ≤ 60 ⌝ }
 {
-    let mut end = LABEL;
-    while end < COUNTER {
+    let mut end = LABEL_AT;
+    while end < COUNTER_AT {
         if record[end] == 0 {
             return end;
         }
         end += 1;
     }
-    COUNTER
+    COUNTER_AT
 }
 
 // Prints a record's label.
 fn print_label(record: &[u8; RECORD]) {
-    let start = LABEL;
+    let start = LABEL_AT;
     let end = label_end(record);
     let bytes = &record[..];
     print(&bytes[start..end]);
@@ -344,7 +328,7 @@ fn answer_record() -> bool {
         return false;
     }
     let state = state_of(&record);
-    let sound = always_sound(state, word_at(&record, REPEAT));
+    let sound = state.sound();
     print_label(&record);
     print_answer(sound);
     true

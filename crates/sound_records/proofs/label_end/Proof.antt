@@ -5,10 +5,10 @@ use Rattle.sound_records.proofs.label_end.Statement.{statement}
 use Rattle.sound_records.proofs.label_end.Tie as tie
 
 abbrev Inv-loop : tie.InvT-loop
-Inv-loop «record» end₀ end = (4 ≤ end) × (end ≤ 64)
+Inv-loop «record» end₀ end = end ≤ 60
 
 abbrev μ-loop : tie.MeasureT-loop
-μ-loop «record» end₀ end = 64 - end
+μ-loop «record» end₀ end = 60 - end
 
 loop-holds : tie.Need-loop-holds Inv-loop μ-loop
 loop-holds c = search needs
