@@ -119,8 +119,8 @@ fn task_sound(task: &Task, priority: u8, standing: u8, counter: u32) -> bool {
 
 #[inline(always)]
 fn queue_sound(queue: &Queue, waiting: &Chains, number: usize) -> bool {
-    let has_sender = waiting.link[SENDERS + number] != 0;
-    let has_receiver = waiting.link[RECEIVERS + number] != 0;
+    let has_sender = waiting.link[HEADS_OF_SENDERS + number] != 0;
+    let has_receiver = waiting.link[HEADS_OF_RECEIVERS + number] != 0;
     let Ring { head, count, capacity, .. } = queue.ring;
     if queue.defined == 0 {
         return count == 0 && !has_sender && !has_receiver;
@@ -131,23 +131,23 @@ fn queue_sound(queue: &Queue, waiting: &Chains, number: usize) -> bool {
     if has_sender && (count != capacity || has_receiver) || has_receiver && count != 0 {
         return false;
     }
-    queue.attribute == 0 || in_order(waiting, SENDERS + number, 16)
+    queue.attribute == 0 || in_order(waiting, HEADS_OF_SENDERS + number, 16)
 }
 
 #[inline(always)]
 fn mailbox_sound(mailbox: &Mailbox, waiting: &Chains, messages: &Chains, number: usize) -> bool {
-    let has_waiter = waiting.link[WAITERS + number] != 0;
-    let has_message = messages.link[QUEUED_MESSAGES + number] != 0;
+    let has_waiter = waiting.link[HEADS_OF_WAITERS + number] != 0;
+    let has_message = messages.link[HEADS_OF_MESSAGES + number] != 0;
     if mailbox.defined == 0 {
         return !has_waiter && !has_message;
     }
     if mailbox.defined > 1 || mailbox.attribute > 3 || has_waiter && has_message {
         return false;
     }
-    if waiters_ranked(mailbox) && !in_order(waiting, WAITERS + number, 16) {
+    if waiters_ranked(mailbox) && !in_order(waiting, HEADS_OF_WAITERS + number, 16) {
         return false;
     }
-    !messages_ranked(mailbox) || (1..=16).contains(&mailbox.highest) && in_order(messages, QUEUED_MESSAGES + number, mailbox.highest)
+    !messages_ranked(mailbox) || (1..=16).contains(&mailbox.highest) && in_order(messages, HEADS_OF_MESSAGES + number, mailbox.highest)
 }
 
 /// Whether the record is sound, whatever its numbers are.
@@ -212,7 +212,7 @@ fn remove(chains: &mut Chains, head: usize, number: u8) {
 // Whether a message is queued in some mailbox. The record has no mark for it, so the chains are followed.
 fn is_queued(messages: &Chains, message: u8) -> bool {
     (1..MAILBOXES + 1).any(|mailbox| {
-        let mut next = messages.link[QUEUED_MESSAGES + mailbox];
+        let mut next = messages.link[HEADS_OF_MESSAGES + mailbox];
         while next != 0 && next != message {
             next = messages.link[next as usize];
         }
@@ -285,9 +285,9 @@ fn join(record: &mut Record, head: usize, me: u32, ranked: bool, wait: Wait) -> 
 fn cancel(record: &mut Record, number: u8, code: u8) {
     let task = &mut record.tasks[number as usize];
     let heads = match task.wait {
-        SENDING => SENDERS,
-        RECEIVING => RECEIVERS,
-        _ => WAITERS,
+        SENDING => HEADS_OF_SENDERS,
+        RECEIVING => HEADS_OF_RECEIVERS,
+        _ => HEADS_OF_WAITERS,
     };
     remove(&mut record.waiting, heads + task.object as usize, number);
     end_wait(task, code, 0);
@@ -323,8 +323,8 @@ fn wait_for(call: &Call, tmout: i32) -> Otherwise {
 }
 
 fn send(record: &mut Record, q: usize, word: u32, full: Otherwise) -> Outcome {
-    if record.waiting.link[RECEIVERS + q] != 0 {
-        release(record, RECEIVERS + q, word);
+    if record.waiting.link[HEADS_OF_RECEIVERS + q] != 0 {
+        release(record, HEADS_OF_RECEIVERS + q, word);
         return done();
     }
     let queue = &mut record.queues[q];
@@ -336,7 +336,7 @@ fn send(record: &mut Record, q: usize, word: u32, full: Otherwise) -> Outcome {
         Otherwise::Refuse => Err(E_TMOUT),
         Otherwise::Wait { me, tmout } => {
             let ranked = queue.attribute == TA_TPRI as u8;
-            join(record, SENDERS + q, me, ranked, Wait { kind: SENDING, object: q as u8, tmout, sending: word })
+            join(record, HEADS_OF_SENDERS + q, me, ranked, Wait { kind: SENDING, object: q as u8, tmout, sending: word })
         }
         Otherwise::Replace => {
             demand(queue.ring.capacity != 0, E_ILUSE)?;
@@ -348,23 +348,25 @@ fn send(record: &mut Record, q: usize, word: u32, full: Otherwise) -> Outcome {
 }
 
 fn receive(record: &mut Record, q: usize, empty: Otherwise) -> Outcome {
-    let sender = record.waiting.link[SENDERS + q] as usize;
+    let sender = record.waiting.link[HEADS_OF_SENDERS + q] as usize;
     let ring = &mut record.queues[q].ring;
     if ring.count != 0 {
         let word = pop_word(ring);
         if sender != 0 {
             push_word(ring, record.tasks[sender].sending);
-            release(record, SENDERS + q, 0);
+            release(record, HEADS_OF_SENDERS + q, 0);
         }
         return gives(word, 0, 0);
     }
     if sender != 0 {
         let word = record.tasks[sender].sending;
-        release(record, SENDERS + q, 0);
+        release(record, HEADS_OF_SENDERS + q, 0);
         return gives(word, 0, 0);
     }
     match empty {
-        Otherwise::Wait { me, tmout } => join(record, RECEIVERS + q, me, false, Wait { kind: RECEIVING, object: q as u8, tmout, sending: 0 }),
+        Otherwise::Wait { me, tmout } => {
+            join(record, HEADS_OF_RECEIVERS + q, me, false, Wait { kind: RECEIVING, object: q as u8, tmout, sending: 0 })
+        }
         _ => Err(E_TMOUT),
     }
 }
@@ -377,15 +379,15 @@ fn create_queue(record: &mut Record, q: usize, call: &Call) -> Outcome {
 }
 
 fn delete_queue(record: &mut Record, q: usize) -> Outcome {
-    delete_chain(record, SENDERS + q);
-    delete_chain(record, RECEIVERS + q);
+    delete_chain(record, HEADS_OF_SENDERS + q);
+    delete_chain(record, HEADS_OF_RECEIVERS + q);
     record.queues[q] = Queue { ring: new_ring(0), defined: 0, attribute: 0 };
     done()
 }
 
 fn refer_queue(record: &Record, q: usize) -> Outcome {
     let link = &record.waiting.link;
-    gives(link[SENDERS + q].into(), link[RECEIVERS + q].into(), record.queues[q].ring.count.into())
+    gives(link[HEADS_OF_SENDERS + q].into(), link[HEADS_OF_RECEIVERS + q].into(), record.queues[q].ring.count.into())
 }
 
 fn on_queue(record: &mut Record, call: &Call) -> Outcome {
@@ -428,8 +430,8 @@ fn create_mailbox(record: &mut Record, b: usize, call: &Call) -> Outcome {
 }
 
 fn delete_mailbox(record: &mut Record, b: usize) -> Outcome {
-    delete_chain(record, WAITERS + b);
-    record.messages.link[QUEUED_MESSAGES + b] = 0;
+    delete_chain(record, HEADS_OF_WAITERS + b);
+    record.messages.link[HEADS_OF_MESSAGES + b] = 0;
     record.mailboxes[b] = Mailbox { defined: 0, attribute: 0, highest: 0 };
     done()
 }
@@ -439,33 +441,33 @@ fn send_message(record: &mut Record, b: usize, call: &Call) -> Outcome {
     let ranked = messages_ranked(&mailbox);
     demand(!ranked || (1..=mailbox.highest as u32).contains(&call.attribute), E_PAR)?;
     demand(!is_queued(&record.messages, call.value as u8), E_OBJ)?;
-    if record.waiting.link[WAITERS + b] != 0 {
-        release(record, WAITERS + b, call.value);
+    if record.waiting.link[HEADS_OF_WAITERS + b] != 0 {
+        release(record, HEADS_OF_WAITERS + b, call.value);
         return done();
     }
     let message = call.value as u8;
     let priority = if ranked { call.attribute as u8 } else { 0 };
     record.messages.key[message as usize] = priority;
-    let place = insert(&mut record.messages, QUEUED_MESSAGES + b, message, limit(ranked, priority));
+    let place = insert(&mut record.messages, HEADS_OF_MESSAGES + b, message, limit(ranked, priority));
     gives(place, 0, 0)
 }
 
 fn receive_message(record: &mut Record, b: usize, empty: Otherwise) -> Outcome {
-    if record.messages.link[QUEUED_MESSAGES + b] != 0 {
-        let message = pop(&mut record.messages, QUEUED_MESSAGES + b);
+    if record.messages.link[HEADS_OF_MESSAGES + b] != 0 {
+        let message = pop(&mut record.messages, HEADS_OF_MESSAGES + b);
         return gives(message.into(), 0, 0);
     }
     match empty {
         Otherwise::Wait { me, tmout } => {
             let ranked = waiters_ranked(&record.mailboxes[b]);
-            join(record, WAITERS + b, me, ranked, Wait { kind: AT_MAILBOX, object: b as u8, tmout, sending: 0 })
+            join(record, HEADS_OF_WAITERS + b, me, ranked, Wait { kind: AT_MAILBOX, object: b as u8, tmout, sending: 0 })
         }
         _ => Err(E_TMOUT),
     }
 }
 
 fn refer_mailbox(record: &Record, b: usize) -> Outcome {
-    gives(record.waiting.link[WAITERS + b].into(), record.messages.link[QUEUED_MESSAGES + b].into(), 0)
+    gives(record.waiting.link[HEADS_OF_WAITERS + b].into(), record.messages.link[HEADS_OF_MESSAGES + b].into(), 0)
 }
 
 fn on_mailbox(record: &mut Record, call: &Call) -> Outcome {

@@ -123,8 +123,8 @@ fn queue_of(record: &Record, number: usize) -> Option<Queue> {
     }
     let words = (0..count).map(|place| cells.ring.words[(head + place) % WORDS]).collect();
     let (attribute, capacity) = if exists { (cells.attribute.into(), cells.ring.capacity.into()) } else { (0, 0) };
-    let senders = follow(&record.waiting.link, linguastel::SENDERS + number, TASKS)?;
-    let receivers = follow(&record.waiting.link, linguastel::RECEIVERS + number, TASKS)?;
+    let senders = follow(&record.waiting.link, linguastel::HEADS_OF_SENDERS + number, TASKS)?;
+    let receivers = follow(&record.waiting.link, linguastel::HEADS_OF_RECEIVERS + number, TASKS)?;
     Some(Queue { exists, attribute, capacity, words, senders, receivers })
 }
 
@@ -135,8 +135,8 @@ fn mailbox_of(record: &Record, number: usize) -> Option<Mailbox> {
     // Without attribute 2 neither the highest priority nor those of the messages are kept.
     let kept = attribute >= linguastel::TA_MPRI;
     let highest = if kept { cells.highest.into() } else { 0 };
-    let waiters = follow(&record.waiting.link, linguastel::WAITERS + number, TASKS)?;
-    let queued = follow(&record.messages.link, linguastel::QUEUED_MESSAGES + number, MESSAGES)?;
+    let waiters = follow(&record.waiting.link, linguastel::HEADS_OF_WAITERS + number, TASKS)?;
+    let queued = follow(&record.messages.link, linguastel::HEADS_OF_MESSAGES + number, MESSAGES)?;
     let priority = |message: u32| if kept { record.messages.key[message as usize].into() } else { 0 };
     let messages = queued.into_iter().map(|number| Message { number, priority: priority(number) }).collect();
     Some(Mailbox { exists, attribute, highest, waiters, messages })
@@ -264,8 +264,8 @@ fn write_queue(record: &mut Record, number: usize, queue: &Queue, random: &mut R
         cells.ring.words[(usize::from(cells.ring.head) + place) % WORDS] = *word;
     }
     let link = &mut record.waiting.link;
-    write_chain(link, linguastel::SENDERS + number, queue.senders.iter().copied());
-    write_chain(link, linguastel::RECEIVERS + number, queue.receivers.iter().copied());
+    write_chain(link, linguastel::HEADS_OF_SENDERS + number, queue.senders.iter().copied());
+    write_chain(link, linguastel::HEADS_OF_RECEIVERS + number, queue.receivers.iter().copied());
 }
 
 fn write_mailbox(record: &mut Record, number: usize, mailbox: &Mailbox) {
@@ -278,8 +278,8 @@ fn write_mailbox(record: &mut Record, number: usize, mailbox: &Mailbox) {
             cells.highest = mailbox.highest as u8;
         }
     }
-    write_chain(&mut record.waiting.link, linguastel::WAITERS + number, mailbox.waiters.iter().copied());
-    let head = linguastel::QUEUED_MESSAGES + number;
+    write_chain(&mut record.waiting.link, linguastel::HEADS_OF_WAITERS + number, mailbox.waiters.iter().copied());
+    let head = linguastel::HEADS_OF_MESSAGES + number;
     write_chain(&mut record.messages.link, head, mailbox.messages.iter().map(|message| message.number));
     for message in &mailbox.messages {
         if kept {
@@ -331,7 +331,7 @@ mod tests {
             ("capacity", |record| record.queues[1].ring.capacity += 1),
             ("count", |record| record.queues[1].ring.count -= 1),
             ("where the ring starts", |record| record.queues[1].ring.head ^= 1),
-            ("head of the senders", |record| record.waiting.link[linguastel::SENDERS + 1] = 1),
+            ("head of the senders", |record| record.waiting.link[linguastel::HEADS_OF_SENDERS + 1] = 1),
             ("attribute of a mailbox", |record| record.mailboxes[1].attribute = 3),
             ("highest message priority", |record| record.mailboxes[1].highest += 1),
             ("priority of a message", |record| record.messages.key[64] -= 1),

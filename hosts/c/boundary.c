@@ -170,7 +170,7 @@ static void spoil_messages(LinguastelRecord *record)
     bool queued[LINGUASTEL_MESSAGES + 1] = { false };
     bool ranked[LINGUASTEL_MESSAGES + 1] = { false };
     for (size_t b = 1; b <= LINGUASTEL_MAILBOXES; b++) {
-        for (uint8_t g = record->messages.link[LINGUASTEL_QUEUED_MESSAGES + b]; g != 0; g = record->messages.link[g]) {
+        for (uint8_t g = record->messages.link[LINGUASTEL_HEADS_OF_MESSAGES + b]; g != 0; g = record->messages.link[g]) {
             queued[g] = true;
             ranked[g] = record->mailboxes[b].attribute >= LINGUASTEL_TA_MPRI;
         }
@@ -374,8 +374,8 @@ static const Fault faults[] = {
     { AT(waiting.key[3]), 17, "task priority 17" },
     { AT(waiting.key[3]), 0, "task priority 0" },
     { AT(waiting.link[1]), 1, "a chain that comes round" },
-    { AT(waiting.link[LINGUASTEL_SENDERS + 5]), 3, "an able task in a chain" },
-    { AT(messages.link[LINGUASTEL_QUEUED_MESSAGES + 1]), 33, "a message in two mailboxes" },
+    { AT(waiting.link[LINGUASTEL_HEADS_OF_SENDERS + 5]), 3, "an able task in a chain" },
+    { AT(messages.link[LINGUASTEL_HEADS_OF_MESSAGES + 1]), 33, "a message in two mailboxes" },
 };
 
 static void test_faults(void)
@@ -417,11 +417,11 @@ static void check_object_view(LinguastelRecord *record, uint32_t number)
 {
     LinguastelAnswer queue = linguastel_iref_dtq(record, number);
     LinguastelAnswer mailbox = linguastel_iref_mbx(record, number);
-    check(queue.a == record->waiting.link[LINGUASTEL_SENDERS + number], "ref_dtq's a");
-    check(queue.b == record->waiting.link[LINGUASTEL_RECEIVERS + number], "ref_dtq's b");
+    check(queue.a == record->waiting.link[LINGUASTEL_HEADS_OF_SENDERS + number], "ref_dtq's a");
+    check(queue.b == record->waiting.link[LINGUASTEL_HEADS_OF_RECEIVERS + number], "ref_dtq's b");
     check(queue.c == record->queues[number].ring.count, "ref_dtq's c");
-    check(mailbox.a == record->waiting.link[LINGUASTEL_WAITERS + number], "ref_mbx's a");
-    check(mailbox.b == record->messages.link[LINGUASTEL_QUEUED_MESSAGES + number], "ref_mbx's b");
+    check(mailbox.a == record->waiting.link[LINGUASTEL_HEADS_OF_WAITERS + number], "ref_mbx's a");
+    check(mailbox.b == record->messages.link[LINGUASTEL_HEADS_OF_MESSAGES + number], "ref_mbx's b");
 }
 
 static void test_view(void)

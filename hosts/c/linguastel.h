@@ -133,8 +133,8 @@ typedef struct {
     uint8_t key[65];
 } LinguastelChains;
 
-/* Cell LINGUASTEL_SENDERS + q of waiting.link has the head sender of data queue q, the next two likewise; the last one is of messages.link. */
-enum { LINGUASTEL_SENDERS = 32, LINGUASTEL_RECEIVERS = 48, LINGUASTEL_WAITERS = 64, LINGUASTEL_QUEUED_MESSAGES = 64 };
+/* Cell LINGUASTEL_HEADS_OF_SENDERS + q of waiting.link is the head of data queue q's senders, the next two likewise; the last is of messages.link. */
+enum { LINGUASTEL_HEADS_OF_SENDERS = 32, LINGUASTEL_HEADS_OF_RECEIVERS = 48, LINGUASTEL_HEADS_OF_WAITERS = 64, LINGUASTEL_HEADS_OF_MESSAGES = 64 };
 
 /*
  * Entry n of each array belongs to number n, entry 0 to nobody. A host may read the record between calls. What it writes there is taken as it is if the

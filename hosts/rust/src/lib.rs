@@ -161,11 +161,11 @@ pub struct Chains {
     pub key: [u8; 65],
 }
 
-// Cell SENDERS + q of `waiting.link` has the head sender of data queue q, the next two likewise; the last one is of `messages.link`.
-pub const SENDERS: usize = 32;
-pub const RECEIVERS: usize = 48;
-pub const WAITERS: usize = 64;
-pub const QUEUED_MESSAGES: usize = 64;
+// Cell HEADS_OF_SENDERS + q of `waiting.link` is the head of data queue q's senders, the next two likewise; the last is of `messages.link`.
+pub const HEADS_OF_SENDERS: usize = 32;
+pub const HEADS_OF_RECEIVERS: usize = 48;
+pub const HEADS_OF_WAITERS: usize = 64;
+pub const HEADS_OF_MESSAGES: usize = 64;
 
 /// Entry n of each array belongs to number n, entry 0 to nobody. What a host writes here is taken as it is if the record is then sound; else every call
 /// of a known number answers E_SYS.

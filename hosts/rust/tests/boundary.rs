@@ -185,8 +185,8 @@ const FAULTS: [Fault; 11] = [
     ("mailbox defined 77", |record| record.mailboxes[5].defined = 77),
     ("a message priority above the highest", |record| record.mailboxes[2].highest = 8),
     ("task priority 17", |record| record.waiting.key[3] = 17),
-    ("an able task in a chain", |record| record.waiting.link[SENDERS + 5] = 3),
-    ("a message in two mailboxes", |record| record.messages.link[QUEUED_MESSAGES + 1] = 33),
+    ("an able task in a chain", |record| record.waiting.link[HEADS_OF_SENDERS + 5] = 3),
+    ("a message in two mailboxes", |record| record.messages.link[HEADS_OF_MESSAGES + 1] = 33),
 ];
 
 #[test]
@@ -215,9 +215,9 @@ fn assert_task_view(record: &mut Record, number: u32) {
 fn assert_object_view(record: &mut Record, number: usize) {
     let (queue, mailbox) = (record.iref_dtq(number as u32), record.iref_mbx(number as u32));
     let heads = |chains: &Chains, first: usize| u32::from(chains.link[first + number]);
-    assert_eq!((queue.a, queue.b), (heads(&record.waiting, SENDERS), heads(&record.waiting, RECEIVERS)));
+    assert_eq!((queue.a, queue.b), (heads(&record.waiting, HEADS_OF_SENDERS), heads(&record.waiting, HEADS_OF_RECEIVERS)));
     assert_eq!(queue.c, record.queues[number].ring.count.into());
-    assert_eq!((mailbox.a, mailbox.b), (heads(&record.waiting, WAITERS), heads(&record.messages, QUEUED_MESSAGES)));
+    assert_eq!((mailbox.a, mailbox.b), (heads(&record.waiting, HEADS_OF_WAITERS), heads(&record.messages, HEADS_OF_MESSAGES)));
 }
 
 #[test]
