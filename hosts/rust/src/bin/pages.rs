@@ -613,10 +613,13 @@ impl Check {
         for one in expected.iter().filter(|one| !self.declared.contains(*one)).cloned().collect::<Vec<String>>() {
             self.differs(page, section.at, &format!("neither the header nor the wrapper has {one}"));
         }
-        match section.text.iter().find(|line| line.text.starts_with("Names:")) {
-            Some(line) => self.expect(quoted(&line.text) == expected, page, line.at, &format!("the names are {}", expected.join(", "))),
-            None => self.differs(page, section.at, "the line 'Names:' is missing"),
-        }
+        // The paragraph goes up to an empty line.
+        let mut names = section.text.iter().skip_while(|line| !line.text.starts_with("Names:")).take_while(|line| !line.text.is_empty()).peekable();
+        let Some(at) = names.peek().map(|line| line.at) else {
+            return self.differs(page, section.at, "the paragraph 'Names:' is missing");
+        };
+        let written: Vec<&str> = names.flat_map(|line| quoted(&line.text)).collect();
+        self.expect(written == expected, page, at, &format!("the names are {}", expected.join(", ")));
     }
 
     fn check_parameters(&mut self, page: &Page, section: &Section, row: &CallRow) {
