@@ -101,7 +101,7 @@ fn print_chain(link: &[u8; CELLS], numbers: usize, chains: usize, chain: usize)
 }
 
 // Puts a number into a chain, behind those at its head whose key is at most the limit. A number that stands in a chain already stays there.
-fn join(
+fn insert_and_print(
     link: &mut [u8; CELLS],
     key: &[u8; KEY_CELLS],
     numbers: usize,
@@ -130,7 +130,7 @@ fn join_last(link: &mut [u8; CELLS], key: &[u8; KEY_CELLS], task: u8)
     ensures { λ _. ⌜ Sound 32 48 (now (link .exit)) ⌝ }
 {
     print(b"  task");
-    join(link, key, TASKS, TASK_CHAINS, BY_ARRIVAL, task, EVERY_KEY);
+    insert_and_print(link, key, TASKS, TASK_CHAINS, BY_ARRIVAL, task, EVERY_KEY);
 }
 
 // The key of a task: its priority.
@@ -151,7 +151,7 @@ fn join_by_priority(link: &mut [u8; CELLS], key: &[u8; KEY_CELLS], task: u8)
     print(b"  priority");
     print_next(priority as u64);
     print(b", task");
-    join(link, key, TASKS, TASK_CHAINS, BY_PRIORITY, task, priority);
+    insert_and_print(link, key, TASKS, TASK_CHAINS, BY_PRIORITY, task, priority);
 }
 
 // Prints whether a chain is in the order of its tasks' priorities.
@@ -328,12 +328,12 @@ fn show_messages() {
     let key = table.key;
     let mut link = table.link;
     print(b"A table of 64 messages and 16 chains\n  message");
-    join(&mut link, &key, MESSAGES, MESSAGE_CHAINS, 16, 64, EVERY_KEY);
+    insert_and_print(&mut link, &key, MESSAGES, MESSAGE_CHAINS, 16, 64, EVERY_KEY);
     print_chain(&link, MESSAGES, MESSAGE_CHAINS, 16);
 }
 
 // Stores a word behind the newest. A full ring drops its oldest word for it, and one of capacity 0 stores nothing.
-fn store(ring: ring::Ring, word: u32) -> ring::Ring
+fn push_and_print(ring: ring::Ring, word: u32) -> ring::Ring
     requires { ⌜ InRange ring ⌝ }
     ensures { λ r. ⌜ Kept (ring .capacity) r ⌝ }
 {
@@ -375,10 +375,10 @@ fn show_ring() {
     let empty = ring::Ring::new(3);
     print_length(empty);
     print(b"  stored:");
-    let one = store(empty, 11);
-    let two = store(one, 22);
-    let three = store(two, 33);
-    let full = store(three, 44);
+    let one = push_and_print(empty, 11);
+    let two = push_and_print(one, 22);
+    let three = push_and_print(two, 33);
+    let full = push_and_print(three, 44);
     print(b"\n ");
     print_length(full);
     print(b"  taken out:");
