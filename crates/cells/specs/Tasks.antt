@@ -61,7 +61,8 @@ suspended-by flags = ltb 1 flags
 unfoldable pub read-task : TaskCells → Task
 read-task x = record { wait = wait-of x; word = x .word; code = read-code (x .code); defined = defined-by (x .flags); suspended = suspended-by (x .flags) }
 
--- Every number of a task's record says something, as is shown of a sound record (crate record, Numbers.antt). A wait's numbers are used only where there is one, the code only of a task that is defined.
+-- Every number of a task's record says something, as is shown of a sound record (crate record, Numbers.antt). A wait's numbers are used only where there is
+-- one, the code only of a task that is defined.
 pub record TaskNumbers (x : TaskCells) : Type 0 where
   pub flags : x .flags ≤ 3
   pub wait : x .wait ≤ 3

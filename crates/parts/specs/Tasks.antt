@@ -13,7 +13,13 @@ use Rattle.parts.specs.declared.Task.{Task}
 
 -- What a task's record and its priority mean. Of an undefined task the priority and the stored pair aren't kept.
 abbrev pub task-row : Task → ℕ → TaskRow
-task-row x priority = record { defined = x .defined; priority = cond (x .defined) priority 0; wait = x .wait; code = cond (x .defined) (x .code) E-OK; word = cond (x .defined) (x .word) 0 }
+task-row x priority = record {
+  defined = x .defined;
+  priority = cond (x .defined) priority 0;
+  wait = x .wait;
+  code = cond (x .defined) (x .code) E-OK;
+  word = cond (x .defined) (x .word) 0;
+}
 
 pub record TaskSound (counter priority standing : ℕ) (x : Task) : Type 0 where
   -- The task stands in the chain that its wait names, or in none.

@@ -1,4 +1,5 @@
--- Document 01, "Error numbers and their order" (place, and how a wait starts and ends): what the methods do that several calls share. k is a wait queue, and the methods are handed the number of its chain.
+-- Document 01, "Error numbers and their order" (place, and how a wait starts and ends): what the methods do that several calls share. k is a wait queue, and
+-- the methods are handed the number of its chain.
 use mathlib.Core.Path.{_≡_}
 use mathlib.Core.Bool.{Bool, not}
 use mathlib.Core.List.{List, [], map, tail, headD}
@@ -91,7 +92,8 @@ pub record Joined (s : State) (chain me : ℕ) (by-priority : Bool) (wait : Wait
 abbrev pub ended-wait : ℕ → Code → WaitQueue → Program.Rows Row → Program.Rows Row
 ended-wait t code k m = update same-key (task t) (ended code 0 (m (task t))) (set-standing k (without t (standing-in m k)) m)
 
--- The task waits and stands in the chain that its wait names. No more is asked, so that the tick can ask it of a record that isn't sound before the tick is over.
+-- The task waits and stands in the chain that its wait names. No more is asked, so that the tick can ask it of a record that isn't sound before the tick
+-- is over.
 pub record Endable (s : State) (t : ℕ) : Type 0 where
   pub readable : Readable s
   pub valid-task : T (valid (task t))
@@ -117,7 +119,8 @@ pub record Clearable (s : State) (chain : ℕ) (code : Code) : Type 0 where
   pub on : OnChain s chain
   pub ends : T (ends-a-wait code)
 
--- What the waits' ends leave is what is left of any program that begins with them; nobody stands in the wait queue any more, and the other wait queues and the messages are as they were.
+-- What the waits' ends leave is what is left of any program that begins with them; nobody stands in the wait queue any more, and the other wait queues and
+-- the messages are as they were.
 pub record Cleared (k : WaitQueue) (code : Code) (s r : State) : Type 0 where
   pub sound : Sound r
   pub counter-is : r .counter ≡ s .counter
