@@ -30,8 +30,8 @@ able-if false = refl
 abbrev task-from : TaskSeen → TaskRow
 task-from y = record { defined = y .defined; priority = 1; wait = wait-if (y .able); code = Ok; word = 0 }
 
-shows-task : (y : TaskSeen) → ShowsTask (task-from y) (y .suspended) y
-shows-task y = record { defined = refl; able = able-if (y .able); suspended = refl }
+shows-task : (y : TaskSeen) → ShowsTask (task-from y) y
+shows-task y = record { defined = refl; able = able-if (y .able) }
 
 -- ── A data queue and a mailbox ──
 
@@ -78,10 +78,9 @@ free-if true = refl
 free-if false = refl
 
 pub every-seen-shows : EverySeenShows
-every-seen-shows y = record {
+every-seen-shows c y = record {
   view = record {
-    caller = task-from (y .caller);
-    caller-suspended = y .caller .suspended;
+    caller = record { row = task-from (y .caller); suspended = y .caller .suspended };
     the-task = task-from (y .task);
     suspended = y .task .suspended;
     the-queue = queue-from (y .queue);
@@ -90,7 +89,9 @@ every-seen-shows y = record {
   };
   shows = record {
     caller = shows-task (y .caller);
+    caller-suspended = refl;
     task = shows-task (y .task);
+    suspended = λ t. refl;
     queue = shows-queue (y .queue);
     mailbox = shows-mailbox (y .mailbox);
     free = free-if (y .«message_free»);

@@ -1,7 +1,7 @@
 -- The promises of the methods speak of a wait queue that there is: by the chain's range, and by the cases of a wait.
 use mathlib.Core.Path.{ap, sym, _∙_}
 use Rattle.model.specs.Rows.{task, TaskRow}
-use Rattle.model.specs.WellFormed.{wait-queue}
+use Rattle.model.specs.Waits.{wait-queue}
 use Rattle.model.proofs.KeptTasks.{waits-somewhere}
 use Rattle.record.specs.Meaning.{task-at}
 use Rattle.waits.specs.Waiting.{EveryChainHasAQueue, NoChainHasTwoQueues, EveryWaitNamesAQueue}
