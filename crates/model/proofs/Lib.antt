@@ -20,3 +20,6 @@ pub mod Checked
 pub mod KeptCalls
 pub mod KeptTick
 pub mod WellFormed
+pub mod TaskRows
+pub mod Shown
+pub mod Answers

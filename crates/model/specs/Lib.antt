@@ -12,5 +12,7 @@ pub mod Tasks
 pub mod Step
 pub mod WellFormed
 pub mod Refusals
+pub mod Answers
+pub mod Endings
 pub mod Isolation
 pub mod SixteenRuns

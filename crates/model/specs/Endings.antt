@@ -1,0 +1,202 @@
+-- Document 01, "A wait ends later with .." and "Task states and ticks": with which code and word each wait ends, and when at the latest.
+use mathlib.Core.Path.{_≡_}
+use mathlib.Core.Bool.{Bool, true, false, not, _&&_, _||_, cond}
+use mathlib.Core.List.{List, [], _∷_, headD}
+use mathlib.Core.Option.{Option, none, some}
+use Prim.Native.Nat.{ℕ, suc, _+_, _%_, _≤_}
+use lib.Dec.{T, eqb}
+use Rattle.lists.specs.Lists.{empty, one-of, ascending}
+use Rattle.rows.specs.Program as Program
+use Rattle.rows.specs.Runs.{end}
+use Rattle.model.specs.Sizes.{task-limit, counter-span}
+use Rattle.model.specs.Rows.{task, Row, TaskRow, Model}
+use Rattle.model.specs.Codes.{Code, E-OK, E-RLWAI, E-TMOUT, E-DLT, finished}
+use Rattle.model.specs.Calls.{Call, calls, word-of, message-of, task-priority-of, view-of}
+use Rattle.model.specs.Waits.{NoWait, At, able, starting, ended, wait-end, due}
+use Rattle.model.specs.Errors.{refused}
+use Rattle.model.specs.Step.{step}
+use Rattle.model.specs.WellFormed.{ticks-left, WellFormed}
+use Rattle.model.specs.Answers.{is-wait}
+
+-- ── The waits that ended between two states ──
+
+abbrev pub is-waiting : Program.Rows Row → ℕ → Bool
+is-waiting m t = not (able (m (task t) .wait))
+
+-- The task waited before, and doesn't after.
+abbrev pub wait-ended : Program.Rows Row → Program.Rows Row → ℕ → Bool
+wait-ended before after t = is-waiting before t && not (is-waiting after t)
+
+-- What a wait ends with.
+pub record CodeAndWord : Type 0 where
+  pub code : Code
+  pub word : ℕ
+
+-- The pair stored with the task, where its wait has ended.
+abbrev pub ended-with : Program.Rows Row → Program.Rows Row → ℕ → Option CodeAndWord
+ended-with before after t = cond (wait-ended before after t) (some (record { code = after (task t) .code; word = after (task t) .word })) none
+
+-- A task with the code and the word that its wait ended with.
+pub record WaitEnd : Type 0 where
+  pub task : ℕ
+  pub code : Code
+  pub word : ℕ
+
+abbrev pub add-end : ℕ → Option CodeAndWord → List WaitEnd → List WaitEnd
+add-end t none l = l
+add-end t (some e) l = record { task = t; code = e .code; word = e .word } ∷ l
+
+-- Of these tasks, those that are given a code and a word, with these.
+unfoldable pub ends-among : (ℕ → Option CodeAndWord) → List ℕ → List WaitEnd
+ends-among given [] = []
+ends-among given (t ∷ ts) = add-end t (given t) (ends-among given ts)
+
+-- All waits that ended, in ascending task number.
+abbrev pub ended-waits : Program.Rows Row → Program.Rows Row → List WaitEnd
+ended-waits before after = ends-among (ended-with before after) (ascending 1 task-limit)
+
+-- ── What is due ──
+
+pub record Cause : Type 0 where
+  pub pair : CodeAndWord
+  pub applies : Bool
+
+infix 66 _and_when_
+abbrev pub _and_when_ : Code → ℕ → Bool → Cause
+code and word when applies = record { pair = record { code = code; word = word }; applies = applies }
+
+-- The task stands at the head of this wait queue.
+unfoldable pub is-head : ℕ → List ℕ → Bool
+is-head t l = not (empty l) && eqb t (headD l 0)
+
+-- The causes that end a wait of task t, and what it ends with: in each row first the code and the word, then the calls, then who is meant.
+unfoldable pub causes : Model → Call → ℕ → List Cause
+causes m c t =
+    -- The tick that brings the counter to the wait's end tick.
+    (E-TMOUT and 0 when (eqb (c .number) 0 && due ((m .environment .counter + 1) % counter-span) (wait-end (m .rows (task t) .wait))))
+    -- A word sent goes to the head receiver.
+    ∷ (E-OK and word-of c when (calls c (4 ∷ 5 ∷ 6 ∷ 7 ∷ []) && is-head t (view-of m c .the-queue .receivers)))
+    -- A receive takes the head sender's word, to store it or to hand it over.
+    ∷ (E-OK and 0 when (calls c (8 ∷ 9 ∷ 10 ∷ []) && is-head t (view-of m c .the-queue .senders)))
+    -- A message sent goes to the head waiter.
+    ∷ (E-OK and message-of c when (eqb (c .number) 14 && is-head t (view-of m c .the-mailbox .waiters)))
+    -- A delete ends every wait at the data queue, or at the mailbox.
+    ∷ (E-DLT and 0 when (eqb (c .number) 3 && (one-of t (view-of m c .the-queue .senders) || one-of t (view-of m c .the-queue .receivers))))
+    ∷ (E-DLT and 0 when (eqb (c .number) 13 && one-of t (view-of m c .the-mailbox .waiters)))
+    -- rel_wai ends the wait of the task that it names.
+    ∷ (E-RLWAI and 0 when (eqb (c .number) 19 && eqb t (c .object)))
+    ∷ []
+
+-- The pair of the first cause that applies. (Never two do: each row has calls of its own.)
+unfoldable pub first-cause : List Cause → Option CodeAndWord
+first-cause [] = none
+first-cause (x ∷ xs) = cond (x .applies) (some (x .pair)) (first-cause xs)
+
+-- The call is accepted, or the tick.
+abbrev pub takes-effect : Model → Call → Bool
+takes-effect m c = eqb (c .number) 0 || not (refused (view-of m c) c)
+
+-- What the wait of task t ends with in this step, if it ends. A refused call ends none.
+unfoldable pub due-to : Model → Call → ℕ → Option CodeAndWord
+due-to m c t = cond (takes-effect m c) (first-cause (causes m c t)) none
+
+-- ── Each wait ends with the code and word due to it ──
+
+abbrev pub row-after : Model → Call → ℕ → TaskRow
+row-after m c t = step m c .state .rows (task t)
+
+-- The call is the task's, and is answered "waits".
+abbrev pub wait-begins : Model → Call → ℕ → Bool
+wait-begins m c t = is-wait (step m c .answer .outcome) && eqb t (c .caller)
+
+-- The call, accepted, defines the task.
+abbrev pub defines : Model → Call → ℕ → Bool
+defines m c t = eqb (c .number) 1 && eqb t (c .object) && not (refused (view-of m c) c)
+
+-- What one call, or the tick, does to the row of task t.
+pub record EndsAsDue (m : Model) (c : Call) (t : ℕ) : Type 0 where
+  -- A wait to which something is due is over, with that code and word stored.
+  pub ends : (e : CodeAndWord) → T (is-waiting (m .rows) t) → due-to m c t ≡ some e → row-after m c t ≡ ended (e .code) (e .word) (m .rows (task t))
+  -- Every other wait goes on as it was.
+  pub goes-on : T (is-waiting (m .rows) t) → due-to m c t ≡ none → row-after m c t ≡ m .rows (task t)
+  -- To a task that doesn't wait nothing is due.
+  pub nothing-due : T (not (is-waiting (m .rows) t)) → due-to m c t ≡ none
+  -- Its wait may begin, with the stored pair cleared.
+  pub begins : T (wait-begins m c t)
+      → T (not (is-waiting (m .rows) t)) × T (is-waiting (step m c .state .rows) t) × (row-after m c t ≡ starting (row-after m c t .wait) (m .rows (task t)))
+  -- It may be defined, if it wasn't.
+  pub defined : T (defines m c t)
+      → T (not (m .rows (task t) .defined)) × (row-after m c t ≡ record { defined = true; priority = task-priority-of c; wait = NoWait; code = E-OK; word = 0 })
+  -- Else its row, with the stored pair, is as it was.
+  pub stays : T (not (is-waiting (m .rows) t)) → T (not (wait-begins m c t)) → T (not (defines m c t)) → row-after m c t ≡ m .rows (task t)
+
+abbrev pub WaitsEndAsDue : Type 0
+WaitsEndAsDue = (m : Model) (c : Call) (t : ℕ) → WellFormed m → EndsAsDue m c t
+
+-- The same of the waits that ended, read off the two states: the tasks, codes and words are those due, in ascending task number.
+abbrev pub EndedWaitsAreDue : Type 0
+EndedWaitsAreDue =
+    (m : Model) (c : Call) → WellFormed m
+    → ((t : ℕ) → ended-with (m .rows) (step m c .state .rows) t ≡ due-to m c t)
+    × (ended-waits (m .rows) (step m c .state .rows) ≡ ends-among (due-to m c) (ascending 1 task-limit))
+
+-- A wait has ended exactly where something was due.
+abbrev pub is-some : Option CodeAndWord → Bool
+is-some none = false
+is-some (some e) = true
+
+abbrev pub WaitsEndWhereDue : Type 0
+WaitsEndWhereDue = (m : Model) (c : Call) (t : ℕ) → WellFormed m → wait-ended (m .rows) (step m c .state .rows) t ≡ is-some (due-to m c t)
+
+-- ── The stored pair, until the next wait begins ──
+
+-- In these calls and ticks, made one after the other from m on, no wait of task t begins.
+unfoldable pub NoWaitBegins : ℕ → Model → List Call → Type 0
+NoWaitBegins t m [] = Unit
+NoWaitBegins t m (c ∷ cs) = T (not (wait-begins m c t)) × NoWaitBegins t (step m c .state) cs
+
+-- The call is an accepted fetch of task t.
+pub record FetchOf (t : ℕ) (m : Model) (c : Call) : Type 0 where
+  pub is-fetch : T (eqb (c .number) 23)
+  pub names-it : c .object ≡ t
+  pub accepted : T (not (refused (view-of m c) c))
+
+-- "Fetch gives it as code and a": the pair that a task has while it doesn't wait is what fetch answers, whatever is called until its next wait begins.
+abbrev pub FetchGivesStoredPair : Type 0
+FetchGivesStoredPair =
+    (m : Model) (t : ℕ) → WellFormed m → T (m .rows (task t) .defined) → T (not (is-waiting (m .rows) t))
+    → (cs : List Call) → NoWaitBegins t m cs → (f : Call) → FetchOf t (end step m cs) f
+    → step (end step m cs) f .answer ≡ finished (m .rows (task t) .code) (m .rows (task t) .word) 0 0
+
+-- So what was due to a wait in a step is what fetch answers after it, until the task's next wait begins.
+abbrev pub FetchGivesWhatWasDue : Type 0
+FetchGivesWhatWasDue =
+    (m : Model) (c : Call) (t : ℕ) (e : CodeAndWord) → WellFormed m → T (is-waiting (m .rows) t) → due-to m c t ≡ some e
+    → (cs : List Call) → NoWaitBegins t (step m c .state) cs → (f : Call) → FetchOf t (end step (step m c .state) cs) f
+    → step (end step (step m c .state) cs) f .answer ≡ finished (e .code) (e .word) 0 0
+
+-- ── No wait outlives its time-out ──
+
+-- How many of these are ticks.
+unfoldable pub ticks : List Call → ℕ
+ticks [] = 0
+ticks (c ∷ cs) = cond (eqb (c .number) 0) (suc (ticks cs)) (ticks cs)
+
+-- The wait that task t has in m goes on through these calls and ticks: the task waits in every state from m to the last.
+unfoldable pub GoesOn : ℕ → Model → List Call → Type 0
+GoesOn t m [] = T (is-waiting (m .rows) t)
+GoesOn t m (c ∷ cs) = T (is-waiting (m .rows) t) × GoesOn t (step m c .state) cs
+
+-- It is one and the same wait: the task's row doesn't change.
+abbrev pub SameWaitGoesOn : Type 0
+SameWaitGoesOn = (m : Model) (t : ℕ) → WellFormed m → (cs : List Call) → GoesOn t m cs → end step m cs .rows (task t) ≡ m .rows (task t)
+
+-- A wait with an end tick doesn't go on through calls that hold as many ticks as are left to it, or more.
+abbrev pub NoWaitOutlivesTimeOut : Type 0
+NoWaitOutlivesTimeOut =
+    (m : Model) (t tick : ℕ) → WellFormed m → wait-end (m .rows (task t) .wait) ≡ At tick
+    → (cs : List Call) → ticks-left (m .environment .counter) tick ≤ ticks cs → GoesOn t m cs → ⊥
+
+-- In no well-formed model has the counter come to the end tick of a wait that still goes on.
+abbrev pub EndTickNotReached : Type 0
+EndTickNotReached = (m : Model) (t : ℕ) → WellFormed m → wait-end (m .rows (task t) .wait) ≡ At (m .environment .counter) → ⊥
