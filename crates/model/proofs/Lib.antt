@@ -23,3 +23,4 @@ pub mod WellFormed
 pub mod TaskRows
 pub mod Shown
 pub mod Answers
+pub mod DueCalls
