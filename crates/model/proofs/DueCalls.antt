@@ -170,9 +170,9 @@ ended-twice true false x = refl
 ended-twice false true x = refl
 ended-twice false false x = refl
 
-ended-once : (b : Bool) (x : TaskRow) → cond b (ended E-DLT 0 x) x ≡ as-due (cond b (some (record { code = E-DLT; word = 0 })) none) x
-ended-once true x = refl
-ended-once false x = refl
+pub ended-if : (b : Bool) (e : CodeAndWord) (x : TaskRow) → cond b (ended (e .code) (e .word) x) x ≡ as-due (cond b (some e) none) x
+ended-if true e x = refl
+ended-if false e x = refl
 
 module _ (m : Model) (c : Call) (t : ℕ) where
   abbrev v : ℕ → View
@@ -220,7 +220,7 @@ module _ (m : Model) (c : Call) (t : ℕ) where
       then for 11 ref-dtq (λ a p. after-return (untouched (numbered 11 c) tt (m .rows) t))
       then for 12 cre-mbx (λ a p. after-put (after-return (untouched (numbered 12 c) tt (m .rows) t)))
       then for 13 del-mbx (λ a p. after-end-waits-tasks _ _ _ _ λ n ends. after-free-messages _ _ n (after-put (after-return (at-once (numbered 13 c) tt (m .rows) t
-      (ends t ∙ ended-once (one-of t (v 13 .the-mailbox .waiters)) (m .rows (task t)))))))
+      (ends t ∙ ended-if (one-of t (v 13 .the-mailbox .waiters)) (record { code = E-DLT; word = 0 }) (m .rows (task t)))))))
       then for 14 snd-mbx (λ a p. leaves-send-message (numbered 14 c) tt (m .rows) t _ _ _ _)
       then for 15 rcv-mbx (λ a p. leaves-receive-message (numbered 15 c) tt (m .rows) t _ _ _ (leaves-wait-for-message (numbered 15 c) tt (m .rows) t _ _ _ (own 15 a tt) (caller-able p tt) _))
       then for 16 prcv-mbx (λ a p. leaves-receive-message (numbered 16 c) tt (m .rows) t _ _ _ (after-return (untouched (numbered 16 c) tt (m .rows) t)))

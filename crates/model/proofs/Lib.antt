@@ -24,3 +24,4 @@ pub mod TaskRows
 pub mod Shown
 pub mod Answers
 pub mod DueCalls
+pub mod Endings
