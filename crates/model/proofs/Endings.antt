@@ -252,3 +252,79 @@ waits-end-as-due m c t w = record {
 
     no-define : T (is-waiting (m .rows) t) → T (not (defines m c t))
     no-define h = not-T (defines m c t) (λ d. subst (λ (z : Wait). T (not (able z))) (w .rows .tasks t .undefined (turn .if-defines d .undefined)) h)
+
+-- The pair read off the rows x before and y after is what was due.
+read-ended : (x y : TaskRow) (g : Option CodeAndWord) → (T (not (able (x .wait))) → y ≡ as-due g x) → (T (not (not (able (x .wait)))) → g ≡ none)
+    → cond (not (able (x .wait)) && not (not (able (y .wait)))) (some (record { code = y .code; word = y .word })) none ≡ g
+read-ended x y g waited rested = go (able (x .wait)) (λ h. h) waited rested
+  where
+    kept : (g : Option CodeAndWord) → T (not (able (x .wait)))
+        → cond (not (not (able (as-due g x .wait)))) (some (record { code = as-due g x .code; word = as-due g x .word })) none ≡ g
+    kept none h = cond-no (not (not (able (x .wait)))) (some (record { code = x .code; word = x .word })) none (not-T (not (not (able (x .wait)))) (λ k. T-not (able (x .wait)) h (T-not-not (able (x .wait)) k)))
+    kept (some e) h = refl
+
+    go : (b : Bool) → (T (not b) → T (not (able (x .wait)))) → (T (not b) → y ≡ as-due g x) → (T (not (not b)) → g ≡ none)
+        → cond (not b && not (not (able (y .wait)))) (some (record { code = y .code; word = y .word })) none ≡ g
+    go true own h k = sym (k tt)
+    go false own h k = subst (λ (z : TaskRow). cond (not (not (able (z .wait)))) (some (record { code = z .code; word = z .word })) none ≡ g) (sym (h tt)) (kept g (own tt))
+
+pub ended-waits-are-due : EndedWaitsAreDue
+ended-waits-are-due m c w = (each, ap (λ given. ends-among given (ascending 1 task-limit)) (fun-ext each))
+  where
+    each : (t : ℕ) → ended-with (m .rows) (step m c .state .rows) t ≡ due-to m c t
+    each t = read-ended (m .rows (task t)) (row-after m c t) (due-to m c t) (λ h. by (due-to m c t) refl h) (waits-end-as-due m c t w .nothing-due)
+      where
+        by : (g : Option CodeAndWord) → due-to m c t ≡ g → T (is-waiting (m .rows) t) → row-after m c t ≡ as-due (due-to m c t) (m .rows (task t))
+        by none e h = rw e (waits-end-as-due m c t w .goes-on h e)
+        by (some d) e h = rw e (waits-end-as-due m c t w .ends d h e)
+
+pub waits-end-where-due : WaitsEndWhereDue
+waits-end-where-due m c t w = sym (given-if (wait-ended (m .rows) (step m c .state .rows) t) _) ∙ ap is-some (ended-waits-are-due m c w .0 t)
+  where
+    given-if : (b : Bool) (e : CodeAndWord) → is-some (cond b (some e) none) ≡ b
+    given-if true e = refl
+    given-if false e = refl
+
+-- ── Fetch ──
+
+-- The row of a task that is defined and doesn't wait stays until its next wait begins.
+stays-until : (m : Model) (t : ℕ) → WellFormed m → T (m .rows (task t) .defined) → T (not (is-waiting (m .rows) t)) → (cs : List Call) → NoWaitBegins t m cs
+    → end step m cs .rows (task t) ≡ m .rows (task t)
+unfolding NoWaitBegins end
+stays-until m t w defined-task no-wait [] b = refl
+stays-until m t w defined-task no-wait (c ∷ cs) b =
+    let same : row-after m c t ≡ m .rows (task t) = waits-end-as-due m c t w .stays no-wait (b .0)
+    (not-T (defines m c t) (λ d. T-not (m .rows (task t) .defined) (waits-end-as-due m c t w .defined d .0) defined-task)) in
+    stays-until (step m c .state) t (kept-well-formed m c w) (subst (λ (x : TaskRow). T (x .defined)) (sym same) defined-task)
+    (subst (λ (x : TaskRow). T (not (not (able (x .wait))))) (sym same) no-wait) cs (b .1) ∙ same
+
+-- An accepted fetch answers the pair of the row in view.
+fetch-answers : (m : Model) (f : Call) → T (not (refused true (view-of (m .rows) (numbered 23 f)) (numbered 23 f)))
+    → step m (numbered 23 f) .answer ≡ finished (view-of (m .rows) (numbered 23 f) .the-task .code) (view-of (m .rows) (numbered 23 f) .the-task .word) 0 0
+unfolding step-of effect effects run
+fetch-answers m f ok = rw (step-call m (numbered 23 f) tt, run-accepted (m .environment) (numbered 23 f) (m .rows) ok)
+
+fetch-gives : (m : Model) (t : ℕ) (f : Call) → FetchOf t m f → step m f .answer ≡ finished (m .rows (task t) .code) (m .rows (task t) .word) 0 0
+unfolding one-of
+fetch-gives m t f h = subst (λ n. T (not (refused true (view-of (m .rows) (numbered n f)) (numbered n f))) → step m (numbered n f) .answer ≡ finished (m .rows (task t) .code) (m .rows (task t) .word) 0 0)
+    (sym (eqb→eq (f .number) 23 (h .is-fetch))) at-23 (h .accepted)
+  where
+    at-23 : T (not (refused true (view-of (m .rows) (numbered 23 f)) (numbered 23 f))) → step m (numbered 23 f) .answer ≡ finished (m .rows (task t) .code) (m .rows (task t) .word) 0 0
+    at-23 ok =
+        let a = accepted Valid (view-of (m .rows) (numbered 23 f)) (numbered 23 f) (each-of-all (λ k i. i) _) ok in
+        fetch-answers m f ok ∙ ap (λ (x : TaskRow). finished (x .code) (x .word) 0 0) (shown-task (m .rows) (numbered 23 f) tt (a .task-in tt) ∙ ap (λ n. m .rows (task n)) (h .names-it))
+
+pub fetch-gives-stored-pair : FetchGivesStoredPair
+fetch-gives-stored-pair m t w defined-task no-wait cs b f h =
+    fetch-gives (end step m cs) t f h ∙ ap (λ (x : TaskRow). finished (x .code) (x .word) 0 0) (stays-until m t w defined-task no-wait cs b)
+
+-- A task that waits is defined.
+waits-defined : {m : Model} → WellFormed m → (t : ℕ) → T (is-waiting (m .rows) t) → T (m .rows (task t) .defined)
+waits-defined {m} w t h = T-not-not (m .rows (task t) .defined) (not-T (not (m .rows (task t) .defined)) (λ u. subst (λ (z : Wait). T (not (able z))) (w .rows .tasks t .undefined u) h))
+
+pub fetch-gives-what-was-due : FetchGivesWhatWasDue
+fetch-gives-what-was-due m c t e w h d cs b f k =
+    let same : row-after m c t ≡ ended (e .code) (e .word) (m .rows (task t)) = waits-end-as-due m c t w .ends e h d in
+    fetch-gives-stored-pair (step m c .state) t (kept-well-formed m c w) (subst (λ (x : TaskRow). T (x .defined)) (sym same) (waits-defined w t h))
+    (subst (λ (x : TaskRow). T (not (not (able (x .wait))))) (sym same) tt) cs b f k
+    ∙ ap (λ (x : TaskRow). finished (x .code) (x .word) 0 0) same

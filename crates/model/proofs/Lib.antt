@@ -25,3 +25,4 @@ pub mod Shown
 pub mod Answers
 pub mod DueCalls
 pub mod Endings
+pub mod TimeOuts

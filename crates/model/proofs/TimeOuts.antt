@@ -1,0 +1,77 @@
+-- No wait outlives its time-out: a wait that goes on keeps its row, so its end tick, and each tick leaves it one tick less. By induction on the calls.
+use mathlib.Core.Path.{_≡_, refl, sym, _∙_, ap, subst}
+use mathlib.Core.Bool.{Bool, true, false, not, cond}
+use mathlib.Core.List.{List, [], _∷_}
+use mathlib.Core.Option.{Option, none, some}
+use Prim.Native.Nat.{ℕ, suc, _+_, _%_, _<_, _≤_}
+use native.Mathlib.Omega.{arith}
+use lib.Dec.{T, eqb}
+use Rattle.rows.specs.Program as Program
+use Rattle.rows.specs.Program.{step-of}
+use Rattle.rows.specs.Runs.{end}
+use Rattle.model.specs.Sizes.{counter-span}
+use Rattle.model.specs.Rows.{task, TaskRow, Model}
+use Rattle.model.specs.Calls.{Call}
+use Rattle.model.specs.Waits.{End, At, able, wait-end}
+use Rattle.model.specs.Tasks.{tick}
+use Rattle.model.specs.Step.{step}
+use Rattle.model.specs.WellFormed.{ticks-left, TickAhead, EndAhead, WellFormed}
+use Rattle.model.specs.Endings.{CodeAndWord, is-waiting, due-to, row-after, ticks, GoesOn, SameWaitGoesOn, NoWaitOutlivesTimeOut, EndTickNotReached}
+use Rattle.model.specs.declared.Answer.{Answer}
+use Rattle.model.proofs.Choices.{cond-yes, cond-no}
+use Rattle.model.proofs.Step.{step-tick, step-call}
+use Rattle.model.proofs.WellFormed.{kept-well-formed}
+use Rattle.model.proofs.Endings.{waits-end-as-due}
+
+-- A task that waits before a step and after it keeps its row.
+still : (m : Model) (c : Call) (t : ℕ) → WellFormed m → T (is-waiting (m .rows) t) → T (is-waiting (step m c .state .rows) t) → row-after m c t ≡ m .rows (task t)
+still m c t w before after = go (due-to m c t) refl
+  where
+    go : (g : Option CodeAndWord) → due-to m c t ≡ g → row-after m c t ≡ m .rows (task t)
+    go none e = waits-end-as-due m c t w .goes-on before e
+    go (some d) e = absurd (subst (λ (x : TaskRow). T (not (able (x .wait)))) (waits-end-as-due m c t w .ends d before e) after)
+
+waits-at-first : (t : ℕ) (m : Model) (cs : List Call) → GoesOn t m cs → T (is-waiting (m .rows) t)
+unfolding GoesOn
+waits-at-first t m [] g = g
+waits-at-first t m (c ∷ cs) g = g .0
+
+pub same-wait-goes-on : SameWaitGoesOn
+unfolding GoesOn end
+same-wait-goes-on m t w [] g = refl
+same-wait-goes-on m t w (c ∷ cs) g = same-wait-goes-on (step m c .state) t (kept-well-formed m c w) cs (g .1) ∙ still m c t w (g .0) (waits-at-first t (step m c .state) cs (g .1))
+
+-- ── The counter ──
+
+counter-kept : (m : Model) (c : Call) → T (not (eqb (c .number) 0)) → step m c .state .environment .counter ≡ m .environment .counter
+unfolding step-of
+counter-kept m c h = ap (λ (o : Program.Result Model Answer). o .state .environment .counter) (step-call m c h)
+
+counter-moved : (m : Model) (c : Call) → T (eqb (c .number) 0) → step m c .state .environment .counter ≡ (m .environment .counter + 1) % counter-span
+unfolding tick
+counter-moved m c h = ap (λ (o : Program.Result Model Answer). o .state .environment .counter) (step-tick m c h)
+
+-- A tick leaves one tick less.
+one-less : (counter end n : ℕ) → counter < counter-span → TickAhead counter 1 end → ticks-left counter end ≤ suc n → ticks-left ((counter + 1) % counter-span) end ≤ n
+one-less counter end n inside h k = let a = h .in-range in let b = h .not-sooner in omega arith
+
+end-ahead : (m : Model) (t end : ℕ) → WellFormed m → wait-end (m .rows (task t) .wait) ≡ At end → TickAhead (m .environment .counter) 1 end
+end-ahead m t end w e = subst (EndAhead (m .environment .counter) 1) e (w .rows .tasks t .end)
+
+pub no-wait-outlives-time-out : NoWaitOutlivesTimeOut
+unfolding ticks GoesOn
+no-wait-outlives-time-out m t end w e [] k g = let a = end-ahead m t end w e .not-sooner in omega arith
+no-wait-outlives-time-out m t end w e (c ∷ cs) k g = go (eqb (c .number) 0) (λ h. h) (λ h. h) k
+    (λ k′. no-wait-outlives-time-out (step m c .state) t end (kept-well-formed m c w)
+    (ap (λ (x : TaskRow). wait-end (x .wait)) (still m c t w (g .0) (waits-at-first t (step m c .state) cs (g .1))) ∙ e) cs k′ (g .1))
+  where
+    go : (b : Bool) → (T b → T (eqb (c .number) 0)) → (T (not b) → T (not (eqb (c .number) 0))) → ticks-left (m .environment .counter) end ≤ cond b (suc (ticks cs)) (ticks cs)
+        → (ticks-left (step m c .state .environment .counter) end ≤ ticks cs → ⊥) → ⊥
+    go true is-tick is-call k′ rest = rest (rw (counter-moved m c (is-tick tt)) (one-less (m .environment .counter) end (ticks cs) (w .counter-in-range) (end-ahead m t end w e) k′))
+    go false is-tick is-call k′ rest = rest (rw (counter-kept m c (is-call tt)) k′)
+
+pub end-tick-not-reached : EndTickNotReached
+end-tick-not-reached m t w e =
+    let a = end-ahead m t (m .environment .counter) w e .not-sooner in
+    let inside = w .counter-in-range in
+    omega arith
