@@ -28,7 +28,7 @@ use Rattle.model.specs.Tasks.{expire, tick}
 use Rattle.model.specs.Step.{effects, effect, step}
 use Rattle.model.specs.WellFormed.{WaitQueue, senders-of, receivers-of, waiters-of, standing-in, wait-queue, WellFormedRows, WellFormed}
 use Rattle.model.specs.Answers.{is-wait}
-use Rattle.model.specs.Endings.{is-waiting, wait-ended, CodeAndWord, ended-with, ends-among, Cause, is-head, causes, first-cause, takes-effect, due-to, row-after, wait-begins, defines, EndsAsDue, WaitsEndAsDue, EndedWaitsAreDue, is-some, WaitsEndWhereDue, NoWaitBegins, FetchOf, FetchGivesStoredPair, FetchGivesWhatWasDue}
+use Rattle.model.specs.Endings.{is-waiting, wait-ended, CodeAndWord, ended-with, ends-among, Cause, is-head, causes, first-cause, takes-effect, due-to, row-after, wait-begins, begun-wait, defines, EndsAsDue, WaitsEndAsDue, EndedWaitsAreDue, is-some, WaitsEndWhereDue, NoWaitBegins, FetchOf, FetchGivesStoredPair, FetchGivesWhatWasDue}
 use Rattle.model.specs.declared.Answer.{Answer}
 use Rattle.model.proofs.Tests.{from-within, or-left, not-both-left}
 use Rattle.model.proofs.Choices.{cond-yes, cond-no}
@@ -90,7 +90,7 @@ module _ (counter t : ℕ) where
 
 -- What a step leaves of the row of t.
 record StepTurn (m : Model) (c : Call) (t : ℕ) : Type 0 where
-  if-begins : T (wait-begins m c t) → Begins (m .rows (task t)) (row-after m c t)
+  if-begins : T (wait-begins m c t) → Begins (begun-wait m c) (m .rows (task t)) (row-after m c t)
   if-defines : T (defines m c t) → Defines c (m .rows (task t)) (row-after m c t)
   else-due : T (not (wait-begins m c t)) → T (not (defines m c t)) → row-after m c t ≡ as-due (due-to m c t) (m .rows (task t))
 
@@ -146,8 +146,8 @@ module _ (m : Model) (c : Call) (t : ℕ) (call-case : T (not (eqb (c .number) 0
       same : step m c ≡ record { state = record { environment = m .environment; rows = run same-key (effect (m .environment) (view-of (m .rows) c) c) (m .rows) .state }; answer = run same-key (effect (m .environment) (view-of (m .rows) c) c) (m .rows) .answer }
       same = step-call m c call-case ∙ ap (λ o. record { state = record { environment = m .environment; rows = o .state }; answer = o .answer }) (run-accepted (m .environment) c (m .rows) ok)
 
-      turn : Turn c t (first-cause (causes m c t)) (m .rows (task t)) (row-after m c t) (step m c .answer)
-      turn = subst (λ (o : Program.Result Model Answer). Turn c t (first-cause (causes m c t)) (m .rows (task t)) (o .state .rows (task t)) (o .answer)) (sym same)
+      turn : Turn c (begun-wait m c) t (first-cause (causes m c t)) (m .rows (task t)) (row-after m c t) (step m c .answer)
+      turn = subst (λ (o : Program.Result Model Answer). Turn c (begun-wait m c) t (first-cause (causes m c t)) (m .rows (task t)) (o .state .rows (task t)) (o .answer)) (sym same)
           (left-effect m c t (accepted Valid (view-of (m .rows) c) c (each-of-all (λ k h. h) _) ok) (passes (view-of (m .rows) c) c ok) .holds)
 
 step-turn : (m : Model) (c : Call) (t : ℕ) → WellFormed m → StepTurn m c t
@@ -233,7 +233,7 @@ waits-end-as-due m c t w = record {
   ends = λ e h d. turn .else-due (no-begin h) (no-define h) ∙ ap (λ g. as-due g x) d;
   goes-on = λ h d. turn .else-due (no-begin h) (no-define h) ∙ ap (λ g. as-due g x) d;
   nothing-due = nothing-due-to m c t w;
-  begins = λ h. let b = turn .if-begins h in (was-able b, b .waits-after, b .cleared);
+  begins = λ h. let b = turn .if-begins h in (was-able b, b .started);
   defined = λ h. let d = turn .if-defines h in (d .undefined, d .new);
   stays = λ h b d. turn .else-due b d ∙ ap (λ g. as-due g x) (nothing-due-to m c t w h);
 }
@@ -244,7 +244,7 @@ waits-end-as-due m c t w = record {
     turn : StepTurn m c t
     turn = step-turn m c t w
 
-    was-able : {y : TaskRow} → Begins x y → T (not (is-waiting (m .rows) t))
+    was-able : {y : TaskRow} → Begins (begun-wait m c) x y → T (not (is-waiting (m .rows) t))
     was-able b = subst (λ (z : Wait). T (not (not (able z)))) (sym (b .able-before)) tt
 
     no-begin : T (is-waiting (m .rows) t) → T (not (wait-begins m c t))

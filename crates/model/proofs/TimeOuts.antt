@@ -5,18 +5,21 @@ use mathlib.Core.List.{List, [], _∷_}
 use mathlib.Core.Option.{Option, none, some}
 use Prim.Native.Nat.{ℕ, suc, _+_, _%_, _<_, _≤_}
 use native.Mathlib.Omega.{arith}
-use lib.Dec.{T, eqb}
+use lib.Dec.{T, not-T, eqb, eqb→eq, eqb-refl}
+use mir.Facts.{yes-and}
+use Rattle.lists.specs.Lists.{one-of}
 use Rattle.rows.specs.Program as Program
 use Rattle.rows.specs.Program.{step-of}
 use Rattle.rows.specs.Runs.{end}
 use Rattle.model.specs.Sizes.{counter-span}
 use Rattle.model.specs.Rows.{task, TaskRow, Model}
-use Rattle.model.specs.Calls.{Call}
-use Rattle.model.specs.Waits.{End, At, able, wait-end}
+use Rattle.model.specs.Calls.{Call, calls, has-tmout, word-of}
+use Rattle.model.specs.Waits.{Never, At, Sending, Receiving, AtMailbox, able, wait-end, end-of}
 use Rattle.model.specs.Tasks.{tick}
 use Rattle.model.specs.Step.{step}
 use Rattle.model.specs.WellFormed.{ticks-left, TickAhead, EndAhead, WellFormed}
-use Rattle.model.specs.Endings.{CodeAndWord, is-waiting, due-to, row-after, ticks, GoesOn, SameWaitGoesOn, NoWaitOutlivesTimeOut, EndTickNotReached}
+use Rattle.model.specs.Endings.{CodeAndWord, is-waiting, due-to, row-after, begun-end, begun-wait, ticks, GoesOn, SameWaitGoesOn, NoWaitOutlivesTimeOut, NoWaitOutlivesTmout, EndTickNotReached}
+use Rattle.model.specs.Answers.{is-wait}
 use Rattle.model.specs.declared.Answer.{Answer}
 use Rattle.model.proofs.Choices.{cond-yes, cond-no}
 use Rattle.model.proofs.Step.{step-tick, step-call}
@@ -69,6 +72,30 @@ no-wait-outlives-time-out m t end w e (c ∷ cs) k g = go (eqb (c .number) 0) (�
         → (ticks-left (step m c .state .environment .counter) end ≤ ticks cs → ⊥) → ⊥
     go true is-tick is-call k′ rest = rest (rw (counter-moved m c (is-tick tt)) (one-less (m .environment .counter) end (ticks cs) (w .counter-in-range) (end-ahead m t end w e) k′))
     go false is-tick is-call k′ rest = rest (rw (counter-kept m c (is-call tt)) k′)
+
+-- The wait that begins ends as the call says.
+begun-with : (m : Model) (c : Call) → wait-end (begun-wait m c) ≡ begun-end m c
+begun-with m c = go (calls c (4 ∷ 6 ∷ [])) (calls c (8 ∷ 10 ∷ []))
+  where
+    go : (a b : Bool) → wait-end (cond a (Sending (c .object) (begun-end m c) (word-of c)) (cond b (Receiving (c .object) (begun-end m c)) (AtMailbox (c .object) (begun-end m c)))) ≡ begun-end m c
+    go true b = refl
+    go false true = refl
+    go false false = refl
+
+at-most : (counter n most : ℕ) → counter < counter-span → n ≤ most → ticks-left counter ((counter + n) % counter-span) ≤ most
+at-most counter n most inside k = omega arith
+
+no-tick : (n : ℕ) → n ≡ 0 → T (one-of n (6 ∷ 10 ∷ 17 ∷ [])) → ⊥
+unfolding one-of
+no-tick n e h = rw e at h
+
+pub no-wait-outlives-tmout : NoWaitOutlivesTmout
+unfolding end-of
+no-wait-outlives-tmout m c n w h has tmout cs k g =
+    no-wait-outlives-time-out (step m c .state) (c .caller) ((m .environment .counter + n) % counter-span) (kept-well-formed m c w)
+    (ap (λ (x : TaskRow). wait-end (x .wait)) (waits-end-as-due m c (c .caller) w .begins (yes-and (is-wait (step m c .answer .outcome)) (eqb (c .caller) (c .caller)) h (eqb-refl (c .caller))) .1)
+    ∙ (begun-with m c ∙ (cond-yes (has-tmout c) (end-of (m .environment .counter) (c .tmout)) Never has ∙ ap (end-of (m .environment .counter)) tmout)))
+    cs (rw (counter-kept m c (not-T (eqb (c .number) 0) (λ t. no-tick (c .number) (eqb→eq (c .number) 0 t) has))) (at-most (m .environment .counter) n (ticks cs) (w .counter-in-range) k)) g
 
 pub end-tick-not-reached : EndTickNotReached
 end-tick-not-reached m t w e =

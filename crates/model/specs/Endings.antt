@@ -5,14 +5,15 @@ use mathlib.Core.List.{List, [], _∷_, headD}
 use mathlib.Core.Option.{Option, none, some}
 use Prim.Native.Nat.{ℕ, suc, _+_, _%_, _≤_}
 use lib.Dec.{T, eqb}
+use lib.IntN.{pos}
 use Rattle.lists.specs.Lists.{empty, one-of, ascending}
 use Rattle.rows.specs.Program as Program
 use Rattle.rows.specs.Runs.{end}
 use Rattle.model.specs.Sizes.{task-limit, counter-span}
 use Rattle.model.specs.Rows.{task, Row, TaskRow, Model}
 use Rattle.model.specs.Codes.{Code, E-OK, E-RLWAI, E-TMOUT, E-DLT, finished}
-use Rattle.model.specs.Calls.{Call, calls, word-of, message-of, task-priority-of, view-of}
-use Rattle.model.specs.Waits.{NoWait, At, able, starting, ended, wait-end, due}
+use Rattle.model.specs.Calls.{Call, calls, has-tmout, word-of, message-of, task-priority-of, view-of}
+use Rattle.model.specs.Waits.{End, Never, At, Wait, NoWait, Sending, Receiving, AtMailbox, able, starting, ended, wait-end, end-of, due}
 use Rattle.model.specs.Errors.{refused}
 use Rattle.model.specs.Step.{step}
 use Rattle.model.specs.WellFormed.{ticks-left, WellFormed}
@@ -109,6 +110,15 @@ row-after m c t = step m c .state .rows (task t)
 abbrev pub wait-begins : Model → Call → ℕ → Bool
 wait-begins m c t = is-wait (step m c .answer .outcome) && eqb t (c .caller)
 
+-- The wait that begins then: at the object that the call names, a sender's with its word, and with an end tick where the call has a tmout.
+abbrev pub begun-end : Model → Call → End
+begun-end m c = cond (has-tmout c) (end-of (m .environment .counter) (c .tmout)) Never
+
+abbrev pub begun-wait : Model → Call → Wait
+begun-wait m c =
+    cond (calls c (4 ∷ 6 ∷ [])) (Sending (c .object) (begun-end m c) (word-of c))
+    (cond (calls c (8 ∷ 10 ∷ [])) (Receiving (c .object) (begun-end m c)) (AtMailbox (c .object) (begun-end m c)))
+
 -- The call, accepted, defines the task.
 abbrev pub defines : Model → Call → ℕ → Bool
 defines m c t = eqb (c .number) 1 && eqb t (c .object) && not (refused (view-of m c) c)
@@ -122,8 +132,7 @@ pub record EndsAsDue (m : Model) (c : Call) (t : ℕ) : Type 0 where
   -- To a task that doesn't wait nothing is due.
   pub nothing-due : T (not (is-waiting (m .rows) t)) → due-to m c t ≡ none
   -- Its wait may begin, with the stored pair cleared.
-  pub begins : T (wait-begins m c t)
-      → T (not (is-waiting (m .rows) t)) × T (is-waiting (step m c .state .rows) t) × (row-after m c t ≡ starting (row-after m c t .wait) (m .rows (task t)))
+  pub begins : T (wait-begins m c t) → T (not (is-waiting (m .rows) t)) × (row-after m c t ≡ starting (begun-wait m c) (m .rows (task t)))
   -- It may be defined, if it wasn't.
   pub defined : T (defines m c t)
       → T (not (m .rows (task t) .defined)) × (row-after m c t ≡ record { defined = true; priority = task-priority-of c; wait = NoWait; code = E-OK; word = 0 })
@@ -196,6 +205,12 @@ abbrev pub NoWaitOutlivesTimeOut : Type 0
 NoWaitOutlivesTimeOut =
     (m : Model) (t tick : ℕ) → WellFormed m → wait-end (m .rows (task t) .wait) ≡ At tick
     → (cs : List Call) → ticks-left (m .environment .counter) tick ≤ ticks cs → GoesOn t m cs → ⊥
+
+-- So a wait begun with tmout n doesn't go on through n ticks after the call.
+abbrev pub NoWaitOutlivesTmout : Type 0
+NoWaitOutlivesTmout =
+    (m : Model) (c : Call) (n : ℕ) → WellFormed m → T (is-wait (step m c .answer .outcome)) → T (has-tmout c) → c .tmout ≡ pos n
+    → (cs : List Call) → n ≤ ticks cs → GoesOn (c .caller) (step m c .state) cs → ⊥
 
 -- In no well-formed model has the counter come to the end tick of a wait that still goes on.
 abbrev pub EndTickNotReached : Type 0
