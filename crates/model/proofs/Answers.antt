@@ -7,7 +7,7 @@ use mathlib.Core.Option.{none, some, Option·none-ne-some}
 use Prim.Native.Nat.{ℕ, suc, zero-le, _≤_, _<_}
 use native.Mathlib.Omega.{arith}
 use native.Mathlib.Nat.{le-refl}
-use lib.Dec.{T, T-not, eqb, eqb→eq}
+use lib.Dec.{nltb→le, T, T-not, eqb, ltb, eqb→eq}
 use lib.ListN.{length, length-map}
 use mir.Facts.{T-not-not, yes-and}
 use Rattle.lists.specs.Lists.{empty, one-of, Once, once}
@@ -22,25 +22,25 @@ use Rattle.model.specs.Rows.{task, mailbox, message, valid, Row, TaskRow
 use Rattle.model.specs.Codes.{Code, E-OK, E-TMOUT, finished, waits}
 use Rattle.model.specs.Calls.{Call, View, names-message, message-of, may-wait, view-of}
 use Rattle.model.specs.Waits.{End, NoWait, WaitQueue, senders-of, receivers-of, waiters-of, wait-queue}
-use Rattle.model.specs.Errors.{task-only, unknown, polls, would-wait, refused}
+use Rattle.model.specs.Errors.{task-only, unknown, unknown-in-table, polls, would-wait, refused}
 use Rattle.model.specs.WaitQueues.{place, release, standing-in}
 use Rattle.model.specs.DataQueues.{deliver, store, replace-oldest, wait-to-send, send, take-oldest, take-oldest-and-refill, take-from-sender, wait-to-receive, receive, cre-dtq, del-dtq, snd-dtq, psnd-dtq, tsnd-dtq, fsnd-dtq, rcv-dtq, prcv-dtq, trcv-dtq, ref-dtq}
 use Rattle.model.specs.Mailboxes.{deliver-message, queue-message, take-message, wait-for-message, send-message, receive-message, cre-mbx, del-mbx, snd-mbx, rcv-mbx, prcv-mbx, trcv-mbx, ref-mbx}
 use Rattle.model.specs.Tasks.{define-task, rel-wai, sus-tsk, rsm-tsk, look, fetch, expire, tick}
 use Rattle.model.specs.Step.{effects, effect, no-call, step}
 use Rattle.model.specs.WellFormed.{named-mailbox, WellFormedRows, WellFormed}
-use Rattle.model.specs.Answers.{is-wait, WaitsExactly, PollsNeverWait, PlacesAre, PlacesInRange}
+use Rattle.model.specs.Answers.{is-wait, WaitsExactly, PollsNeverWait, PlacesInRange}
 use Rattle.model.specs.declared.Answer.{Answer}
 use Rattle.model.specs.declared.Outcome.{Outcome}
 use Rattle.model.specs.declared.Outcome.the-variants.{Finished, Waits}
-use Rattle.model.proofs.Tests.{from-within, or-left, not-both}
+use Rattle.model.proofs.Tests.{from-within, or-left, neither, neither-right, not-both}
 use Rattle.model.proofs.Choices.{cond-yes}
 use Rattle.model.proofs.Step.{numbered, step-tick, step-call, run-accepted}
 use Rattle.model.proofs.Accepted.{passes, Accepted, accepted}
 use Rattle.model.proofs.Checked.{caller-able, message-free}
 use Rattle.model.proofs.WaitMoves.{is-valid}
 use Rattle.model.proofs.KeptCalls.{Valid}
-use Rattle.model.proofs.Shown.{shown-caller, shown-message, shown-queue, shown-mailbox}
+use Rattle.model.proofs.Shown.{shown-caller, shown-message, some-queue-shown, some-mailbox-shown}
 use Rattle.model.proofs.After.{After, after-return, after-get, after-put, after-if, after-get-each, after-free-messages}
 use Rattle.model.proofs.Refusals.{refusals}
 use Rattle.model.proofs.TaskRows.{after-end-wait-tasks, after-end-waits-tasks}
@@ -131,29 +131,29 @@ ruleset Fails = (not-either, not-first, not-second, not-not)
 module _ (P : Answer → Type 0) (e : Environment) (v : View) (c : Call) (m : Program.Rows Row) where
   -- Call n has the effect f, and that answers as allowed if the call is accepted.
   abbrev SaysFor : ℕ → (Environment → View → Call → Effect) → Type 0
-  SaysFor n f = AllAnswers P v (numbered n c) → T (not (unknown (numbered n c))) → Says P (f e v (numbered n c)) m
+  SaysFor n f = AllAnswers P v (numbered n c) → T (not (unknown-in-table (numbered n c))) → Says P (f e v (numbered n c)) m
 
   for : (n : ℕ) (f : Environment → View → Call → Effect) → SaysFor n f → SaysFor n f
   for n f h = h
 
   says-effects : EachNumbered SaysFor effects
-  unfolding EachNumbered effects one-of unknown would-wait replace-oldest
+  unfolding EachNumbered effects one-of unknown-in-table would-wait replace-oldest
   says-effects =
       for 0 no-call (λ a p. absurd p)
       then for 1 define-task (λ a p. after-put (after-put (after-return (a .served tt tt _ _ _ _))))
       then for 2 cre-dtq (λ a p. after-put (after-return (a .served tt tt _ _ _ _)))
       then for 3 del-dtq (λ a p. after-end-waits-tasks _ _ _ _ λ n same. after-end-waits-tasks _ _ _ _ λ o same. after-put (after-return (a .served tt tt _ _ _ _)))
       then for 4 snd-dtq (λ a p. says-send _ _ _ _ (λ s. a .served (search Fails) tt _ _ _ _) (λ s. a .served (search Fails) tt _ _ _ _)
-          (λ r f. says-wait-to-send _ _ _ _ _ _ (a .waited (search (or-left, yes-and)) tt)))
+      (λ r f. says-wait-to-send _ _ _ _ _ _ (a .waited (search (or-left, yes-and)) tt)))
       then for 5 psnd-dtq (λ a p. says-send _ _ _ _ (λ s. a .served tt tt _ _ _ _) (λ s. a .served tt tt _ _ _ _) (λ r f. after-return (a .served tt tt _ _ _ _)))
       then for 6 tsnd-dtq (λ a p. says-send _ _ _ _ (λ s. a .served (search Fails) tt _ _ _ _) (λ s. a .served (search Fails) tt _ _ _ _)
-          (λ r f. says-wait-to-send _ _ _ _ _ _ (a .waited (search (or-left, yes-and)) tt)))
+      (λ r f. says-wait-to-send _ _ _ _ _ _ (a .waited (search (or-left, yes-and)) tt)))
       then for 7 fsnd-dtq (λ a p. says-send _ _ _ _ (λ s. a .served tt tt _ _ _ _) (λ s. a .served tt tt _ _ _ _) (λ r f. after-put (after-return (a .served tt tt _ _ _ _))))
       then for 8 rcv-dtq (λ a p. says-receive _ _ _ (λ s a′. a .served (search Fails) tt _ _ _ _) (λ s a′. a .served (search Fails) tt _ _ _ _)
-          (λ n s. says-wait-to-receive _ _ _ _ _ (a .waited (search (or-left, yes-and)) tt)))
+      (λ n s. says-wait-to-receive _ _ _ _ _ (a .waited (search (or-left, yes-and)) tt)))
       then for 9 prcv-dtq (λ a p. says-receive _ _ _ (λ s a′. a .served tt tt _ _ _ _) (λ s a′. a .served tt tt _ _ _ _) (λ n s. after-return (a .served tt tt _ _ _ _)))
       then for 10 trcv-dtq (λ a p. says-receive _ _ _ (λ s a′. a .served (search Fails) tt _ _ _ _) (λ s a′. a .served (search Fails) tt _ _ _ _)
-          (λ n s. says-wait-to-receive _ _ _ _ _ (a .waited (search (or-left, yes-and)) tt)))
+      (λ n s. says-wait-to-receive _ _ _ _ _ (a .waited (search (or-left, yes-and)) tt)))
       then for 11 ref-dtq (λ a p. after-return (a .served tt tt _ _ _ _))
       then for 12 cre-mbx (λ a p. after-put (after-return (a .served tt tt _ _ _ _)))
       then for 13 del-mbx (λ a p. after-end-waits-tasks _ _ _ _ λ n same. after-free-messages _ _ _ (after-put (after-return (a .served tt tt _ _ _ _))))
@@ -171,14 +171,18 @@ module _ (P : Answer → Type 0) (e : Environment) (v : View) (c : Call) (m : Pr
 
   -- Beyond the table a number is unknown.
   beyond : (n : ℕ) → length effects ≤ n → SaysFor n no-call
-  unfolding effects unknown
-  beyond n h a p = let known = from-within 1 call-limit n (T-not-not (within 1 call-limit n) p) in absurd (omega arith)
+  unfolding effects unknown-in-table unknown
+  beyond n h a p = let known = nltb→le call-limit n (neither-right (eqb n 0) (ltb call-limit n) p) in absurd (omega arith)
 
   says-effect : SaysFor (c .number) effect
   unfolding effect
   says-effect = at-number SaysFor no-call effects beyond says-effects (c .number)
 
 -- ── A whole step ──
+
+known : (c : Call) → T (not (eqb (c .number) 0)) → T (not (unknown c)) → T (not (unknown-in-table c))
+unfolding unknown-in-table
+known c t u = neither (eqb (c .number) 0) (unknown c) t u
 
 says-expire : {P : Answer → Type 0} (counter : ℕ) (l : List ℕ) (n : ℕ) (m : Program.Rows Row) → ((a : ℕ) → P (finished E-OK a 0 0)) → Says P (expire counter l n) m
 unfolding expire
@@ -199,7 +203,7 @@ step-says P m c tick-case refused-case accepted-case = go (eqb (c .number) 0) (r
     go false true is-tick is-call is-refused is-accepted = rw (refusals m c (is-call tt) .by-row (is-refused tt)) (refused-case (is-call tt) (is-refused tt) _)
     go false false is-tick is-call is-refused is-accepted = let ok = is-accepted tt in
         rw (step-call m c (is-call tt), run-accepted m c ok)
-        (says-effect P (m .environment) (view-of m c) c (m .rows) (accepted-case (is-call tt) ok) (passes (view-of m c) c ok .step-0) .holds)
+        (says-effect P (m .environment) (view-of m c) c (m .rows) (accepted-case (is-call tt) ok) (known c (is-call tt) (passes (view-of m c) c ok .step-0)) .holds)
 
 -- ── Which answers are "waits" ──
 
@@ -293,9 +297,9 @@ module _ (m : Model) (c : Call) (w : WellFormed m) (ok : T (not (refused (view-o
   in-range = accepted Valid v c (each-of-all (λ k t. t) _) ok
 
   fewer-ahead : T (task-only c) → standing-ahead v c < task-limit
-  fewer-ahead h = smaller (within 4 6 (c .number)) (shown-queue (m .rows) c (λ (x : QueueRow). length (x .senders) < task-limit) (λ q. fewer (senders-of q)) (omega arith))
-      (smaller (within 8 10 (c .number)) (shown-queue (m .rows) c (λ (x : QueueRow). length (x .receivers) < task-limit) (λ q. fewer (receivers-of q)) (omega arith))
-      (shown-mailbox (m .rows) c (λ (x : MailboxRow). length (x .waiters) < task-limit) (λ b. fewer (waiters-of b)) (omega arith)))
+  fewer-ahead h = smaller (within 4 6 (c .number)) (some-queue-shown m c (λ (x : QueueRow). length (x .senders) < task-limit) (λ q. fewer (senders-of q)) (omega arith))
+      (smaller (within 8 10 (c .number)) (some-queue-shown m c (λ (x : QueueRow). length (x .receivers) < task-limit) (λ q. fewer (receivers-of q)) (omega arith))
+      (some-mailbox-shown m c (λ (x : MailboxRow). length (x .waiters) < task-limit) (λ b. fewer (waiters-of b)) (omega arith)))
     where
       smaller : {x y : ℕ} (b : Bool) → x < task-limit → y < task-limit → cond b x y < task-limit
       smaller true p q = p
@@ -303,12 +307,12 @@ module _ (m : Model) (c : Call) (w : WellFormed m) (ok : T (not (refused (view-o
 
       fewer : (k : WaitQueue) → length (standing-in (m .rows) k) < task-limit
       fewer k = fewer-standing (w .rows) (c .caller) (in-range .caller-in h)
-          (subst (λ (x : TaskRow). x .wait ≡ NoWait) (shown-caller (m .rows) c (in-range .caller-in h)) (caller-able (passes v c ok) h)) k
+          (subst (λ (x : TaskRow). x .wait ≡ NoWait) (shown-caller m c (in-range .caller-in h)) (caller-able (passes v c ok) h)) k
 
   fewer-messages : T (names-message c) → length (v .the-mailbox .messages) < message-limit
-  fewer-messages h = shown-mailbox (m .rows) c (λ (x : MailboxRow). length (x .messages) < message-limit)
+  fewer-messages h = some-mailbox-shown m c (λ (x : MailboxRow). length (x .messages) < message-limit)
       (λ b. fewer-queued (w .rows) (message-of c) (in-range .message-in h)
-      (subst (λ (x : MessageRow). T (eqb (x .queued-in) 0)) (shown-message (m .rows) c h (in-range .message-in h)) (message-free (passes v c ok) h)) b) (omega arith)
+      (subst (λ (x : MessageRow). T (eqb (x .queued-in) 0)) (shown-message m c h (in-range .message-in h)) (message-free (passes v c ok) h)) b) (omega arith)
 
 finished-not-waits : {code : Code} {n : ℕ} {X : Type 0} → Finished code ≡ Waits n → X
 finished-not-waits e = absurd (false≢true (ap is-wait e))

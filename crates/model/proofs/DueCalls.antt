@@ -6,7 +6,7 @@ use mathlib.Core.List.{List, headD}
 use mathlib.Core.Option.{Option, none, some}
 use Prim.Native.Nat.{ℕ, _≤_}
 use native.Mathlib.Omega.{arith}
-use lib.Dec.{T, T-not, eqb, eqb→eq, eqb-refl}
+use lib.Dec.{nltb→le, T, T-not, eqb, eqb→eq, eqb-refl}
 use lib.ListN.{length}
 use borrow.Author.Tests.{eq-eqb, ne-eqb}
 use mir.Facts.{T-not-not, and-yes}
@@ -18,8 +18,8 @@ use Rattle.model.specs.Sizes.{call-limit, within}
 use Rattle.model.specs.Rows.{task, message, same-key, Row, TaskRow, QueueRow, MailboxRow, Environment, Effect, Model, has-room}
 use Rattle.model.specs.Codes.{Code, E-OK, E-RLWAI, E-DLT, waits, finished}
 use Rattle.model.specs.Calls.{Call, View, task-priority-of, view-of}
-use Rattle.model.specs.Waits.{Wait, NoWait, Sending, Receiving, AtMailbox, End, able, starting, ended}
-use Rattle.model.specs.Errors.{unknown, task-only, exists}
+use Rattle.model.specs.Waits.{Wait, NoWait, Sending, Receiving, AtMailbox, End, starting, ended}
+use Rattle.model.specs.Errors.{unknown, task-only, exists, missing}
 use Rattle.model.specs.WaitQueues.{release}
 use Rattle.model.specs.DataQueues.{deliver, store, replace-oldest, wait-to-send, send, take-oldest, take-oldest-and-refill, take-from-sender, wait-to-receive, receive, cre-dtq, del-dtq, snd-dtq, psnd-dtq, tsnd-dtq, fsnd-dtq, rcv-dtq, prcv-dtq, trcv-dtq, ref-dtq}
 use Rattle.model.specs.Mailboxes.{deliver-message, queue-message, take-message, wait-for-message, send-message, receive-message, cre-mbx, del-mbx, snd-mbx, rcv-mbx, prcv-mbx, trcv-mbx, ref-mbx}
@@ -35,7 +35,7 @@ use Rattle.model.proofs.Accepted.{Passes, Accepted}
 use Rattle.model.proofs.Checked.{exists-not, caller-able}
 use Rattle.model.proofs.After.{After, after-return, after-get, after-put, after-if, after-get-each, after-free-messages}
 use Rattle.model.proofs.KeptCalls.{Valid}
-use Rattle.model.proofs.TaskRows.{SameTasks, ended-in, after-end-wait-tasks, after-end-waits-tasks}
+use Rattle.model.proofs.TaskRows.{ended-in, after-end-wait-tasks, after-end-waits-tasks}
 use Rattle.model.proofs.Shown.{shown-caller, shown-task}
 
 -- ── A row before and after ──
@@ -175,7 +175,7 @@ ended-if false e x = refl
 
 module _ (m : Model) (c : Call) (t : ℕ) where
   abbrev v : ℕ → View
-  v n = view-of (m .rows) (numbered n c)
+  v n = view-of m (numbered n c)
 
   abbrev w : ℕ → Wait
   w n = begun-wait m (numbered n c)
@@ -189,8 +189,8 @@ module _ (m : Model) (c : Call) (t : ℕ) where
   for n f h = h
 
   -- The caller's row is in view.
-  own : (n : ℕ) → Accepted Valid (numbered n c) → T (task-only (numbered n c)) → v n .caller ≡ m .rows (task (c .caller))
-  own n a h = shown-caller (m .rows) (numbered n c) (a .caller-in h)
+  own : (n : ℕ) → Accepted Valid (numbered n c) → T (task-only (numbered n c)) → v n .caller .row ≡ m .rows (task (c .caller))
+  own n a h = shown-caller m (numbered n c) (a .caller-in h)
 
   -- The task named is defined, if it wasn't.
   define-turn : T (not (m .rows (task (c .object)) .defined)) → Turn (numbered 1 c) (w 1) t none (m .rows (task t))
@@ -204,11 +204,11 @@ module _ (m : Model) (c : Call) (t : ℕ) where
       (λ n. record { begins = λ h. absurd h; defines = λ h. absurd (n (eqb→eq t (c .object) h)); else-due = λ h k. refl })
 
   left-effects : EachNumbered LeftFor effects
-  unfolding EachNumbered effects one-of unknown exists causes first-cause replace-oldest same-key update
+  unfolding EachNumbered effects one-of exists missing causes first-cause replace-oldest same-key update
   left-effects =
-      for 0 no-call (λ a p. absurd (p .step-0))
+      for 0 no-call (λ a p. absurd (p .step-5))
       then for 1 define-task (λ a p. let undefined : T (not (v 1 .the-task .defined)) = search (exists-not p tt, neither-left) in
-      after-put (after-put (after-return (define-turn (subst (λ (x : TaskRow). T (not (x .defined))) (shown-task (m .rows) (numbered 1 c) tt (a .task-in tt)) undefined)))))
+      after-put (after-put (after-return (define-turn (subst (λ (x : TaskRow). T (not (x .defined))) (shown-task m (numbered 1 c) tt (a .task-in tt)) undefined)))))
       then for 2 cre-dtq (λ a p. after-put (after-return (untouched (numbered 2 c) tt (m .rows) (w 2) t)))
       then for 3 del-dtq (λ a p. after-end-waits-tasks _ _ _ _ λ n ends. after-end-waits-tasks _ _ _ n λ o ends′. after-put (after-return (at-once (numbered 3 c) tt (m .rows) (w 3) t
       (ends′ t ∙ (ap (ended-in (v 3 .the-queue .receivers) E-DLT t) (ends t) ∙ ended-twice (one-of t (v 3 .the-queue .senders)) (one-of t (v 3 .the-queue .receivers)) (m .rows (task t)))))))
@@ -238,7 +238,7 @@ module _ (m : Model) (c : Call) (t : ℕ) where
   -- Beyond the table a number is unknown.
   beyond : (n : ℕ) → length effects ≤ n → LeftFor n no-call
   unfolding effects unknown
-  beyond n h a p = let known = from-within 1 call-limit n (T-not-not (within 1 call-limit n) (p .step-0)) in absurd (omega arith)
+  beyond n h a p = let known = nltb→le call-limit n (p .step-0) in absurd (omega arith)
 
   pub left-effect : LeftFor (c .number) effect
   unfolding effect

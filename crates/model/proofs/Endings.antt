@@ -2,14 +2,14 @@
 use mathlib.Core.Path.{_≡_, refl, sym, _∙_, ap, subst, fun-ext}
 use mathlib.Core.Bool.{Bool, true, false, not, _&&_, _||_, cond, and-false}
 use mathlib.Core.List.{List, [], _∷_, headD, List·Memᴰ as In, List·Memᴰ·not-nil, Memᴰ·cast}
-use mathlib.Core.Logic.{_⊎_, ⊎-elim}
+use mathlib.Core.Logic.{⊎-elim}
 use mathlib.Core.Option.{Option, none, some, Option·none-ne-some}
 use Prim.Native.Nat.{ℕ, zero, suc, _+_, _%_, _<_, _≤_}
 use native.Mathlib.Decide.{ℕ-discrete}
 use native.Mathlib.Omega.{arith}
-use lib.Dec.{T, T-not, not-T, eqb, eqb→eq, eqb-refl}
-use borrow.Author.Tests.{eq-eqb, ne-eqb}
-use mir.Facts.{T-not-not, and-yes, or-yes, yes-and, no-eqb}
+use lib.Dec.{nltb→le, T, T-not, not-T, eqb, eqb→eq, eqb-refl}
+use borrow.Author.Tests.{ne-eqb}
+use mir.Facts.{T-not-not, and-yes, or-yes, yes-and}
 use Rattle.lists.specs.Lists.{Each, none as no-more, both, empty, one-of, ascending}
 use Rattle.lists.proofs.Each.{each-of-all}
 use Rattle.lists.proofs.Members.{is-one-of}
@@ -19,22 +19,23 @@ use Rattle.rows.specs.Program as Program
 use Rattle.rows.specs.Program.{run, update, step-of}
 use Rattle.rows.specs.Runs.{end}
 use Rattle.model.specs.Sizes.{task-limit, counter-span}
-use Rattle.model.specs.Rows.{task, same-key, valid, Row, TaskRow, QueueRow, MailboxRow, Model}
-use Rattle.model.specs.Codes.{E-OK, E-TMOUT, finished}
+use Rattle.model.specs.Rows.{task, same-key, Row, TaskRow, QueueRow, MailboxRow, Model}
+use Rattle.model.specs.Codes.{E-TMOUT, finished}
 use Rattle.model.specs.Calls.{Call, View, calls, view-of}
-use Rattle.model.specs.Waits.{Wait, NoWait, Sending, Receiving, AtMailbox, able, ended, wait-end, due}
+use Rattle.model.specs.Waits.{Wait, NoWait, Sending, Receiving, AtMailbox, able, ended, wait-end, due, WaitQueue, senders-of, receivers-of, waiters-of, wait-queue}
 use Rattle.model.specs.Errors.{refused}
 use Rattle.model.specs.Tasks.{expire, tick}
 use Rattle.model.specs.Step.{effects, effect, step}
-use Rattle.model.specs.WellFormed.{WaitQueue, senders-of, receivers-of, waiters-of, standing-in, wait-queue, WellFormedRows, WellFormed}
+use Rattle.model.specs.WellFormed.{WellFormed}
 use Rattle.model.specs.Answers.{is-wait}
-use Rattle.model.specs.Endings.{is-waiting, wait-ended, CodeAndWord, ended-with, ends-among, Cause, is-head, causes, first-cause, takes-effect, due-to, row-after, wait-begins, begun-wait, defines, EndsAsDue, WaitsEndAsDue, EndedWaitsAreDue, is-some, WaitsEndWhereDue, NoWaitBegins, FetchOf, FetchGivesStoredPair, FetchGivesWhatWasDue}
+use Rattle.model.specs.Endings.{is-waiting, wait-ended, CodeAndWord, ended-with, ends-among, Cause, is-head, causes, first-cause, takes-effect, due-to, row-after, wait-begins, begun-wait, defines, WaitsEndAsDue, EndedWaitsAreDue, is-some, WaitsEndWhereDue, NoWaitBegins, FetchOf, FetchGivesStoredPair, FetchGivesWhatWasDue}
+use Rattle.model.specs.WaitQueues.{standing-in}
 use Rattle.model.specs.declared.Answer.{Answer}
 use Rattle.model.proofs.Tests.{from-within, or-left, not-both-left}
 use Rattle.model.proofs.Choices.{cond-yes, cond-no}
 use Rattle.model.proofs.Standing.{task-cases}
 use Rattle.model.proofs.Step.{numbered, step-call, run-accepted}
-use Rattle.model.proofs.Accepted.{passes, Accepted, accepted}
+use Rattle.model.proofs.Accepted.{passes, accepted}
 use Rattle.model.proofs.Checked.{task-waits}
 use Rattle.model.proofs.Refusals.{refusals}
 use Rattle.model.proofs.WaitMoves.{is-valid}
@@ -43,7 +44,7 @@ use Rattle.model.proofs.KeptCalls.{Valid}
 use Rattle.model.proofs.KeptTick.{due-waits}
 use Rattle.model.proofs.WellFormed.{kept-well-formed}
 use Rattle.model.proofs.TaskRows.{after-end-wait-tasks}
-use Rattle.model.proofs.Shown.{shown-task, shown-queue, shown-mailbox}
+use Rattle.model.proofs.Shown.{shown-task, some-queue-shown, some-mailbox-shown}
 use Rattle.model.proofs.Answers.{waits-exactly}
 use Rattle.model.proofs.DueCalls.{as-due, Begins, Defines, Turn, ended-if, left-effect}
 
@@ -123,37 +124,37 @@ tick-turn m c t w = record {
         one-of-ascending task-limit 1 t (k .0) (let high = k .1 in omega arith)
 
 module _ (m : Model) (c : Call) (t : ℕ) (call-case : T (not (eqb (c .number) 0))) where
-  refused-turn : T (refused true (view-of (m .rows) c) c) → StepTurn m c t
+  refused-turn : T (refused (view-of m c) c) → StepTurn m c t
   unfolding due-to
   refused-turn r = let same = refusals m c call-case .by-row r in record {
     if-begins = λ h. absurd (subst (λ (o : Program.Result Model Answer). T (is-wait (o .answer .outcome) && eqb t (c .caller))) same h);
-    if-defines = λ h. absurd (T-not (refused true (view-of (m .rows) c) c) (and-yes (eqb (c .number) 1 && eqb t (c .object)) (not (refused true (view-of (m .rows) c) c)) h .1) r);
+    if-defines = λ h. absurd (T-not (refused (view-of m c) c) (and-yes (eqb (c .number) 1 && eqb t (c .object)) (not (refused (view-of m c) c)) h .1) r);
     else-due = λ h k. ap (λ (o : Program.Result Model Answer). o .state .rows (task t)) same ∙ ap (λ g. as-due g (m .rows (task t))) (sym (cond-no (takes-effect m c) _ none no-effect));
   }
     where
       no-effect : T (not (takes-effect m c))
-      no-effect = not-T (takes-effect m c) (λ h. ⊎-elim (T-not (eqb (c .number) 0) call-case) (λ k. T-not (refused true (view-of (m .rows) c) c) k r) (or-yes (eqb (c .number) 0) (not (refused true (view-of (m .rows) c) c)) h))
+      no-effect = not-T (takes-effect m c) (λ h. ⊎-elim (T-not (eqb (c .number) 0) call-case) (λ k. T-not (refused (view-of m c) c) k r) (or-yes (eqb (c .number) 0) (not (refused (view-of m c) c)) h))
 
-  accepted-turn : T (not (refused true (view-of (m .rows) c) c)) → StepTurn m c t
+  accepted-turn : T (not (refused (view-of m c) c)) → StepTurn m c t
   unfolding step-of due-to
   accepted-turn ok = record {
     if-begins = turn .begins;
-    if-defines = λ h. turn .defines (and-yes (eqb (c .number) 1 && eqb t (c .object)) (not (refused true (view-of (m .rows) c) c)) h .0);
-    else-due = λ h k. turn .else-due h (not-both-left (eqb (c .number) 1 && eqb t (c .object)) (not (refused true (view-of (m .rows) c) c)) k ok)
+    if-defines = λ h. turn .defines (and-yes (eqb (c .number) 1 && eqb t (c .object)) (not (refused (view-of m c) c)) h .0);
+    else-due = λ h k. turn .else-due h (not-both-left (eqb (c .number) 1 && eqb t (c .object)) (not (refused (view-of m c) c)) k ok)
         ∙ ap (λ g. as-due g (m .rows (task t))) (sym (cond-yes (takes-effect m c) _ none (or-right (eqb (c .number) 0) _ ok)));
   }
     where
-      same : step m c ≡ record { state = record { environment = m .environment; rows = run same-key (effect (m .environment) (view-of (m .rows) c) c) (m .rows) .state }; answer = run same-key (effect (m .environment) (view-of (m .rows) c) c) (m .rows) .answer }
-      same = step-call m c call-case ∙ ap (λ o. record { state = record { environment = m .environment; rows = o .state }; answer = o .answer }) (run-accepted (m .environment) c (m .rows) ok)
+      same : step m c ≡ record { state = record { environment = m .environment; rows = run same-key (effect (m .environment) (view-of m c) c) (m .rows) .state }; answer = run same-key (effect (m .environment) (view-of m c) c) (m .rows) .answer }
+      same = step-call m c call-case ∙ ap (λ o. record { state = record { environment = m .environment; rows = o .state }; answer = o .answer }) (run-accepted m c ok)
 
       turn : Turn c (begun-wait m c) t (first-cause (causes m c t)) (m .rows (task t)) (row-after m c t) (step m c .answer)
       turn = subst (λ (o : Program.Result Model Answer). Turn c (begun-wait m c) t (first-cause (causes m c t)) (m .rows (task t)) (o .state .rows (task t)) (o .answer)) (sym same)
-          (left-effect m c t (accepted Valid (view-of (m .rows) c) c (each-of-all (λ k h. h) _) ok) (passes (view-of (m .rows) c) c ok) .holds)
+          (left-effect m c t (accepted Valid (view-of m c) c (each-of-all (λ k h. h) _) ok) (passes (view-of m c) c ok) .holds)
 
 step-turn : (m : Model) (c : Call) (t : ℕ) → WellFormed m → StepTurn m c t
-step-turn m c t w = go (eqb (c .number) 0) (refused true (view-of (m .rows) c) c) (eqb→eq (c .number) 0) (λ h. h) (λ h. h) (λ h. h)
+step-turn m c t w = go (eqb (c .number) 0) (refused (view-of m c) c) (eqb→eq (c .number) 0) (λ h. h) (λ h. h) (λ h. h)
   where
-    go : (b r : Bool) → (T b → c .number ≡ 0) → (T (not b) → T (not (eqb (c .number) 0))) → (T r → T (refused true (view-of (m .rows) c) c)) → (T (not r) → T (not (refused true (view-of (m .rows) c) c))) → StepTurn m c t
+    go : (b r : Bool) → (T b → c .number ≡ 0) → (T (not b) → T (not (eqb (c .number) 0))) → (T r → T (refused (view-of m c) c)) → (T (not r) → T (not (refused (view-of m c) c))) → StepTurn m c t
     go true r is-tick is-call is-refused is-accepted = subst (λ n. StepTurn m (numbered n c) t) (sym (is-tick tt)) (tick-turn m c t w)
     go false true is-tick is-call is-refused is-accepted = refused-turn m c t (is-call tt) (is-refused tt)
     go false false is-tick is-call is-refused is-accepted = accepted-turn m c t (is-call tt) (is-accepted tt)
@@ -176,24 +177,24 @@ unfolding is-head
 head-in t l h = let k = and-yes (not (empty l)) (eqb t (headD l 0)) h in Memᴰ·cast (eqb→eq t (headD l 0) (k .1)) (in-head l (k .0))
 
 -- The task that an accepted rel_wai names waits.
-released-waits : (m : Model) (c : Call) → T (not (refused true (view-of (m .rows) (numbered 19 c)) (numbered 19 c))) → T (is-waiting (m .rows) (c .object))
+released-waits : (m : Model) (c : Call) → T (not (refused (view-of m (numbered 19 c)) (numbered 19 c))) → T (is-waiting (m .rows) (c .object))
 unfolding one-of
 released-waits m c ok =
-    let a = accepted Valid (view-of (m .rows) (numbered 19 c)) (numbered 19 c) (each-of-all (λ k h. h) _) ok in
-    subst (λ (x : TaskRow). T (not (able (x .wait)))) (shown-task (m .rows) (numbered 19 c) tt (a .task-in tt)) (task-waits (passes (view-of (m .rows) (numbered 19 c)) (numbered 19 c) ok) tt)
+    let a = accepted Valid (view-of m (numbered 19 c)) (numbered 19 c) (each-of-all (λ k h. h) _) ok in
+    subst (λ (x : TaskRow). T (not (able (x .wait)))) (shown-task m (numbered 19 c) tt (a .task-in tt)) (task-waits (passes (view-of m (numbered 19 c)) (numbered 19 c) ok) tt)
 
 module _ (m : Model) (c : Call) (t : ℕ) (w : WellFormed m) (no-wait : T (not (is-waiting (m .rows) t))) where
   absent : (k : WaitQueue) → In t (standing-in (m .rows) k) → ⊥
   absent k i = T-not (is-waiting (m .rows) t) no-wait (named-waits (m .rows (task t) .wait) k (w .rows .waiting .no-other t k i))
 
-  not-sending : In t (view-of (m .rows) c .the-queue .senders) → ⊥
-  not-sending = shown-queue (m .rows) c (λ (x : QueueRow). In t (x .senders) → ⊥) (λ q. absent (senders-of q)) List·Memᴰ·not-nil
+  not-sending : In t (view-of m c .the-queue .senders) → ⊥
+  not-sending = some-queue-shown m c (λ (x : QueueRow). In t (x .senders) → ⊥) (λ q. absent (senders-of q)) List·Memᴰ·not-nil
 
-  not-receiving : In t (view-of (m .rows) c .the-queue .receivers) → ⊥
-  not-receiving = shown-queue (m .rows) c (λ (x : QueueRow). In t (x .receivers) → ⊥) (λ q. absent (receivers-of q)) List·Memᴰ·not-nil
+  not-receiving : In t (view-of m c .the-queue .receivers) → ⊥
+  not-receiving = some-queue-shown m c (λ (x : QueueRow). In t (x .receivers) → ⊥) (λ q. absent (receivers-of q)) List·Memᴰ·not-nil
 
-  not-at-mailbox : In t (view-of (m .rows) c .the-mailbox .waiters) → ⊥
-  not-at-mailbox = shown-mailbox (m .rows) c (λ (x : MailboxRow). In t (x .waiters) → ⊥) (λ b. absent (waiters-of b)) List·Memᴰ·not-nil
+  not-at-mailbox : In t (view-of m c .the-mailbox .waiters) → ⊥
+  not-at-mailbox = some-mailbox-shown m c (λ (x : MailboxRow). In t (x .waiters) → ⊥) (λ b. absent (waiters-of b)) List·Memᴰ·not-nil
 
   not-released : T (takes-effect m c) → T (eqb (c .number) 19) → t ≡ c .object → ⊥
   not-released h n e = T-not (is-waiting (m .rows) t) no-wait (subst (λ j. T (is-waiting (m .rows) j)) (sym e)
@@ -207,7 +208,7 @@ module _ (m : Model) (c : Call) (t : ℕ) (w : WellFormed m) (no-wait : T (not (
   nothing-due-to = go (takes-effect m c) (λ h. h)
     where
       x : View
-      x = view-of (m .rows) c
+      x = view-of m c
 
       next : ℕ
       next = (m .environment .counter + 1) % counter-span
@@ -299,20 +300,20 @@ stays-until m t w defined-task no-wait (c ∷ cs) b =
     (subst (λ (x : TaskRow). T (not (not (able (x .wait))))) (sym same) no-wait) cs (b .1) ∙ same
 
 -- An accepted fetch answers the pair of the row in view.
-fetch-answers : (m : Model) (f : Call) → T (not (refused true (view-of (m .rows) (numbered 23 f)) (numbered 23 f)))
-    → step m (numbered 23 f) .answer ≡ finished (view-of (m .rows) (numbered 23 f) .the-task .code) (view-of (m .rows) (numbered 23 f) .the-task .word) 0 0
+fetch-answers : (m : Model) (f : Call) → T (not (refused (view-of m (numbered 23 f)) (numbered 23 f)))
+    → step m (numbered 23 f) .answer ≡ finished (view-of m (numbered 23 f) .the-task .code) (view-of m (numbered 23 f) .the-task .word) 0 0
 unfolding step-of effect effects run
-fetch-answers m f ok = rw (step-call m (numbered 23 f) tt, run-accepted (m .environment) (numbered 23 f) (m .rows) ok)
+fetch-answers m f ok = rw (step-call m (numbered 23 f) tt, run-accepted m (numbered 23 f) ok)
 
 fetch-gives : (m : Model) (t : ℕ) (f : Call) → FetchOf t m f → step m f .answer ≡ finished (m .rows (task t) .code) (m .rows (task t) .word) 0 0
 unfolding one-of
-fetch-gives m t f h = subst (λ n. T (not (refused true (view-of (m .rows) (numbered n f)) (numbered n f))) → step m (numbered n f) .answer ≡ finished (m .rows (task t) .code) (m .rows (task t) .word) 0 0)
+fetch-gives m t f h = subst (λ n. T (not (refused (view-of m (numbered n f)) (numbered n f))) → step m (numbered n f) .answer ≡ finished (m .rows (task t) .code) (m .rows (task t) .word) 0 0)
     (sym (eqb→eq (f .number) 23 (h .is-fetch))) at-23 (h .accepted)
   where
-    at-23 : T (not (refused true (view-of (m .rows) (numbered 23 f)) (numbered 23 f))) → step m (numbered 23 f) .answer ≡ finished (m .rows (task t) .code) (m .rows (task t) .word) 0 0
+    at-23 : T (not (refused (view-of m (numbered 23 f)) (numbered 23 f))) → step m (numbered 23 f) .answer ≡ finished (m .rows (task t) .code) (m .rows (task t) .word) 0 0
     at-23 ok =
-        let a = accepted Valid (view-of (m .rows) (numbered 23 f)) (numbered 23 f) (each-of-all (λ k i. i) _) ok in
-        fetch-answers m f ok ∙ ap (λ (x : TaskRow). finished (x .code) (x .word) 0 0) (shown-task (m .rows) (numbered 23 f) tt (a .task-in tt) ∙ ap (λ n. m .rows (task n)) (h .names-it))
+        let a = accepted Valid (view-of m (numbered 23 f)) (numbered 23 f) (each-of-all (λ k i. i) _) ok in
+        fetch-answers m f ok ∙ ap (λ (x : TaskRow). finished (x .code) (x .word) 0 0) (shown-task m (numbered 23 f) tt (a .task-in tt) ∙ ap (λ n. m .rows (task n)) (h .names-it))
 
 pub fetch-gives-stored-pair : FetchGivesStoredPair
 fetch-gives-stored-pair m t w defined-task no-wait cs b f h =

@@ -1,10 +1,9 @@
 -- Of a program that ends waits, what is left of the tasks' rows: by running it; the rows of objects don't count here.
-use mathlib.Core.Path.{_≡_, refl, sym, _∙_, ap, ap₂}
-use mathlib.Core.Bool.{Bool, true, false, cond, _||_}
+use mathlib.Core.Path.{_≡_, refl, _∙_, ap}
+use mathlib.Core.Bool.{cond}
 use mathlib.Core.List.{List, [], _∷_}
-use mathlib.Core.Logic.{_≢_}
+use mathlib.Core.Option.{Option, none, some}
 use Prim.Native.Nat.{ℕ}
-use lib.Dec.{eqb}
 use borrow.Author.Tests.{eq-eqb, ne-eqb}
 use Rattle.lists.specs.Lists.{one-of}
 use Rattle.rows.specs.Program as Program
@@ -12,8 +11,8 @@ use Rattle.rows.specs.Program.{update}
 use Rattle.rows.proofs.Update.{update-agree}
 use Rattle.model.specs.Rows.{task, same-key, Row, TaskRow, Effect}
 use Rattle.model.specs.Codes.{Code}
-use Rattle.model.specs.Waits.{Wait, NoWait, Sending, Receiving, AtMailbox, ended}
-use Rattle.model.specs.WaitQueues.{take-out, end-wait, end-waits}
+use Rattle.model.specs.Waits.{ended, WaitQueue, senders-of, receivers-of, waiters-of, wait-queue}
+use Rattle.model.specs.WaitQueues.{leave-queue, end-wait, end-waits}
 use Rattle.model.specs.declared.Answer.{Answer}
 use Rattle.model.proofs.Choices.{cond-both}
 use Rattle.model.proofs.Standing.{task-cases}
@@ -28,18 +27,18 @@ abbrev pub ended-in : List ℕ → Code → ℕ → TaskRow → TaskRow
 ended-in l code j x = cond (one-of j l) (ended code 0 x) x
 
 module _ {Q : Program.Rows Row → Answer → Type 0} where
-  after-take-out-tasks : (t : ℕ) (x : Wait) (p : Effect) (m : Program.Rows Row) → ((n : Program.Rows Row) → SameTasks m n → After Q p n) → After Q (take-out t x p) m
-  unfolding take-out same-key update
-  after-take-out-tasks t NoWait p m h = h m (λ j. refl)
-  after-take-out-tasks t (Sending q end word) p m h = after-get (after-put (h _ (λ j. refl)))
-  after-take-out-tasks t (Receiving q end) p m h = after-get (after-put (h _ (λ j. refl)))
-  after-take-out-tasks t (AtMailbox b end) p m h = after-get (after-put (h _ (λ j. refl)))
+  after-leave-queue-tasks : (t : ℕ) (x : Option WaitQueue) (p : Effect) (m : Program.Rows Row) → ((n : Program.Rows Row) → SameTasks m n → After Q p n) → After Q (leave-queue t x p) m
+  unfolding leave-queue same-key update
+  after-leave-queue-tasks t none p m h = h m (λ j. refl)
+  after-leave-queue-tasks t (some (senders-of q)) p m h = after-get (after-put (h _ (λ j. refl)))
+  after-leave-queue-tasks t (some (receivers-of q)) p m h = after-get (after-put (h _ (λ j. refl)))
+  after-leave-queue-tasks t (some (waiters-of b)) p m h = after-get (after-put (h _ (λ j. refl)))
 
   pub after-end-wait-tasks : (t : ℕ) (code : Code) (p : Effect) (m : Program.Rows Row)
       → ((n : Program.Rows Row) → SameTasks (update same-key (task t) (ended code 0 (m (task t))) m) n → After Q p n) → After Q (end-wait t code p) m
   unfolding end-wait
   after-end-wait-tasks t code p m h =
-      after-get (after-take-out-tasks t (m (task t) .wait) _ m (λ n same. after-put (h _ (λ j. update-agree same-key (task t) (ended code 0 (m (task t))) n m (task j) (same j)))))
+      after-get (after-leave-queue-tasks t (wait-queue (m (task t) .wait)) _ m (λ n same. after-put (h _ (λ j. update-agree same-key (task t) (ended code 0 (m (task t))) n m (task j) (same j)))))
 
   pub after-end-waits-tasks : (l : List ℕ) (code : Code) (p : Effect) (m : Program.Rows Row)
       → ((n : Program.Rows Row) → ((j : ℕ) → n (task j) ≡ ended-in l code j (m (task j))) → After Q p n) → After Q (end-waits l code p) m

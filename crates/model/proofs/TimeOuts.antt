@@ -1,5 +1,5 @@
 -- No wait outlives its time-out: a wait that goes on keeps its row, so its end tick, and each tick leaves it one tick less. By induction on the calls.
-use mathlib.Core.Path.{_≡_, refl, sym, _∙_, ap, subst}
+use mathlib.Core.Path.{_≡_, refl, _∙_, ap, subst}
 use mathlib.Core.Bool.{Bool, true, false, not, cond}
 use mathlib.Core.List.{List, [], _∷_}
 use mathlib.Core.Option.{Option, none, some}
@@ -21,7 +21,7 @@ use Rattle.model.specs.WellFormed.{ticks-left, TickAhead, EndAhead, Well
 use Rattle.model.specs.Endings.{CodeAndWord, is-waiting, due-to, row-after, begun-end, begun-wait, ticks, GoesOn, SameWaitGoesOn, NoWaitOutlivesTimeOut, NoWaitOutlivesTmout, EndTickNotReached}
 use Rattle.model.specs.Answers.{is-wait}
 use Rattle.model.specs.declared.Answer.{Answer}
-use Rattle.model.proofs.Choices.{cond-yes, cond-no}
+use Rattle.model.proofs.Choices.{cond-yes}
 use Rattle.model.proofs.Step.{step-tick, step-call}
 use Rattle.model.proofs.WellFormed.{kept-well-formed}
 use Rattle.model.proofs.Endings.{waits-end-as-due}
