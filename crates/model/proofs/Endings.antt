@@ -2,12 +2,14 @@
 use mathlib.Core.Path.{_≡_, refl, sym, _∙_, ap, subst, fun-ext}
 use mathlib.Core.Bool.{Bool, true, false, not, _&&_, _||_, cond, and-false}
 use mathlib.Core.List.{List, [], _∷_, headD, List·Memᴰ as In, List·Memᴰ·not-nil, Memᴰ·cast}
-use mathlib.Core.Logic.{⊎-elim}
+use mathlib.Core.Logic.{_≢_, ⊎-elim}
 use mathlib.Core.Option.{Option, none, some, Option·none-ne-some}
 use Prim.Native.Nat.{ℕ, zero, suc, _+_, _%_, _<_, _≤_}
 use native.Mathlib.Decide.{ℕ-discrete}
+use native.Mathlib.Nat.{add-zero, zero-add, le-refl}
 use native.Mathlib.Omega.{arith}
-use lib.Dec.{nltb→le, T, T-not, not-T, eqb, eqb→eq, eqb-refl}
+use lib.Dec.{T, T-not, not-T, eqb, eqb→eq, eqb-refl}
+use lib.ListN.{length}
 use borrow.Author.Tests.{ne-eqb}
 use mir.Facts.{T-not-not, and-yes, or-yes, yes-and}
 use Rattle.lists.specs.Lists.{Each, none as no-more, both, empty, one-of, ascending}
@@ -20,7 +22,7 @@ use Rattle.rows.specs.Program.{run, update, step-of}
 use Rattle.rows.specs.Runs.{end}
 use Rattle.model.specs.Sizes.{task-limit, counter-span}
 use Rattle.model.specs.Rows.{task, same-key, Row, TaskRow, QueueRow, MailboxRow, Model}
-use Rattle.model.specs.Codes.{E-TMOUT, finished}
+use Rattle.model.specs.Codes.{E-OK, E-TMOUT, finished}
 use Rattle.model.specs.Calls.{Call, View, calls, view-of}
 use Rattle.model.specs.Waits.{Wait, NoWait, Sending, Receiving, AtMailbox, able, ended, wait-end, due, WaitQueue, senders-of, receivers-of, waiters-of, wait-queue}
 use Rattle.model.specs.Errors.{refused}
@@ -28,10 +30,10 @@ use Rattle.model.specs.Tasks.{expire, tick}
 use Rattle.model.specs.Step.{effects, effect, step}
 use Rattle.model.specs.WellFormed.{WellFormed}
 use Rattle.model.specs.Answers.{is-wait}
-use Rattle.model.specs.Endings.{is-waiting, wait-ended, CodeAndWord, ended-with, ends-among, Cause, is-head, causes, first-cause, takes-effect, due-to, row-after, wait-begins, begun-wait, defines, WaitsEndAsDue, EndedWaitsAreDue, is-some, WaitsEndWhereDue, NoWaitBegins, FetchOf, FetchGivesStoredPair, FetchGivesWhatWasDue}
 use Rattle.model.specs.WaitQueues.{standing-in}
+use Rattle.model.specs.Endings.{is-waiting, wait-ended, CodeAndWord, ended-with, WaitEnd, add-end, ends-among, ended-waits, Cause, is-head, causes, first-cause, takes-effect, due-to, row-after, wait-begins, begun-wait, defines, WaitsEndAsDue, EndedWaitsAreDue, is-some, WaitsEndWhereDue, TickCountsEnds, NoWaitBegins, FetchOf, FetchGivesStoredPair, FetchGivesWhatWasDue}
 use Rattle.model.specs.declared.Answer.{Answer}
-use Rattle.model.proofs.Tests.{from-within, or-left, not-both-left}
+use Rattle.model.proofs.Tests.{from-within, or-left, or-right, not-both-left}
 use Rattle.model.proofs.Choices.{cond-yes, cond-no}
 use Rattle.model.proofs.Standing.{task-cases}
 use Rattle.model.proofs.Step.{numbered, step-call, run-accepted}
@@ -43,16 +45,12 @@ use Rattle.model.proofs.After.{After, after-return, after-get, after-if
 use Rattle.model.proofs.KeptCalls.{Valid}
 use Rattle.model.proofs.KeptTick.{due-waits}
 use Rattle.model.proofs.WellFormed.{kept-well-formed}
-use Rattle.model.proofs.TaskRows.{after-end-wait-tasks}
+use Rattle.model.proofs.TaskRows.{SameTasks, after-end-wait-tasks}
 use Rattle.model.proofs.Shown.{shown-task, some-queue-shown, some-mailbox-shown}
 use Rattle.model.proofs.Answers.{waits-exactly}
 use Rattle.model.proofs.DueCalls.{as-due, Begins, Defines, Turn, ended-if, left-effect}
 
 -- ── The tick ──
-
-or-right : (a b : Bool) → T b → T (a || b)
-or-right true b t = tt
-or-right false b t = t
 
 one-of-ascending : (n first t : ℕ) → first ≤ t → t < first + n → T (one-of t (ascending first n))
 unfolding one-of ascending
@@ -285,6 +283,48 @@ waits-end-where-due m c t w = sym (given-if (wait-ended (m .rows) (step m c .sta
     given-if : (b : Bool) (e : CodeAndWord) → is-some (cond b (some e) none) ≡ b
     given-if true e = refl
     given-if false e = refl
+
+-- ── The tick's count ──
+
+module _ (counter : ℕ) (m : Program.Rows Row) where
+  abbrev timed-out : CodeAndWord
+  timed-out = record { code = E-TMOUT; word = 0 }
+
+  -- What is due in the tick, by the rows before it.
+  abbrev due-now : ℕ → Option CodeAndWord
+  due-now t = cond (due counter (wait-end (m (task t) .wait))) (some timed-out) none
+
+  -- The tasks from `first` on have their rows still, so that they are counted as they were.
+  counts : (n first count : ℕ) (o : Program.Rows Row) → ((t : ℕ) → first ≤ t → o (task t) ≡ m (task t))
+      → After (λ p a. a ≡ finished E-OK (count + length (ends-among due-now (ascending first n))) 0 0) (expire counter (ascending first n) count) o
+  unfolding expire ascending ends-among
+  counts zero first count o same = after-return (rw (add-zero count))
+  counts (suc n) first count o same = after-get (after-if
+      (λ is-due. after-end-wait-tasks first E-TMOUT _ o (λ p left. record { holds = counts n (suc first) (suc count) p (later p left) .holds ∙ ap (λ k. finished E-OK k 0 0) (one-more is-due) }))
+      (λ no-end. record { holds = counts n (suc first) count o (λ t h. same t (omega arith)) .holds ∙ ap (λ k. finished E-OK k 0 0) (none-more no-end) }))
+    where
+      others : List WaitEnd
+      others = ends-among due-now (ascending (suc first) n)
+
+      later : (p : Program.Rows Row) → SameTasks (update same-key (task first) (ended E-TMOUT 0 (o (task first))) o) p → (t : ℕ) → suc first ≤ t → p (task t) ≡ m (task t)
+      later p left t h = left t ∙ (task-cases first o (λ j y. j ≢ first → y ≡ o (task j)) _ (λ d. absurd (d refl)) t (λ d e. refl) (λ e. omega arith) ∙ same t (omega arith))
+
+      one-more : T (due counter (wait-end (o (task first) .wait))) → suc count + length others ≡ count + length (add-end first (due-now first) others)
+      one-more h = rw (cond-yes (due counter (wait-end (m (task first) .wait))) (some timed-out) none
+          (subst (λ (x : TaskRow). T (due counter (wait-end (x .wait)))) (same first (le-refl first)) h)) (omega arith)
+
+      none-more : T (not (due counter (wait-end (o (task first) .wait)))) → count + length others ≡ count + length (add-end first (due-now first) others)
+      none-more h = rw (cond-no (due counter (wait-end (m (task first) .wait))) (some timed-out) none
+          (subst (λ (x : TaskRow). T (not (due counter (wait-end (x .wait))))) (same first (le-refl first)) h)) refl
+
+tick-counts : (m : Model) (c : Call) → WellFormed m → step m (numbered 0 c) .answer ≡ finished E-OK (length (ended-waits (m .rows) (step m (numbered 0 c) .state .rows))) 0 0
+unfolding step tick due-to causes first-cause one-of
+tick-counts m c w = counts ((m .environment .counter + 1) % counter-span) (m .rows) task-limit 1 0 (m .rows) (λ t h. refl) .holds
+    ∙ (ap (λ n. finished E-OK n 0 0) (zero-add _) ∙ ap (λ (l : List WaitEnd). finished E-OK (length l) 0 0) (sym (ended-waits-are-due m (numbered 0 c) w .1)))
+
+pub tick-counts-ends : TickCountsEnds
+tick-counts-ends m c w h =
+    subst (λ n. step m (numbered n c) .answer ≡ finished E-OK (length (ended-waits (m .rows) (step m (numbered n c) .state .rows))) 0 0) (sym (eqb→eq (c .number) 0 h)) (tick-counts m c w)
 
 -- ── Fetch ──
 

@@ -6,6 +6,7 @@ use mathlib.Core.Option.{Option, none, some}
 use Prim.Native.Nat.{ℕ, suc, _+_, _%_, _≤_}
 use lib.Dec.{T, eqb}
 use lib.IntN.{pos}
+use lib.ListN.{length}
 use Rattle.lists.specs.Lists.{empty, one-of, ascending}
 use Rattle.rows.specs.Program as Program
 use Rattle.rows.specs.Runs.{end}
@@ -156,6 +157,12 @@ is-some (some e) = true
 
 abbrev pub WaitsEndWhereDue : Type 0
 WaitsEndWhereDue = (m : Model) (c : Call) (t : ℕ) → WellFormed m → wait-ended (m .rows) (step m c .state .rows) t ≡ is-some (due-to m c t)
+
+-- "Several in one tick end in ascending task number; a is how many."
+abbrev pub TickCountsEnds : Type 0
+TickCountsEnds =
+    (m : Model) (c : Call) → WellFormed m → T (eqb (c .number) 0)
+    → step m c .answer ≡ finished E-OK (length (ended-waits (m .rows) (step m c .state .rows))) 0 0
 
 -- ── The stored pair, until the next wait begins ──
 
