@@ -31,7 +31,7 @@ use Rattle.model.specs.Step.{effects, effect, step}
 use Rattle.model.specs.WellFormed.{WellFormed}
 use Rattle.model.specs.Answers.{is-wait}
 use Rattle.model.specs.WaitQueues.{standing-in}
-use Rattle.model.specs.Endings.{is-waiting, wait-ended, CodeAndWord, ended-with, WaitEnd, add-end, ends-among, ended-waits, Cause, is-head, causes, first-cause, takes-effect, due-to, row-after, wait-begins, begun-wait, defines, WaitsEndAsDue, EndedWaitsAreDue, is-some, WaitsEndWhereDue, TickCountsEnds, NoWaitBegins, FetchOf, FetchGivesStoredPair, FetchGivesWhatWasDue}
+use Rattle.model.specs.Endings.{is-waiting, wait-ended, CodeAndWord, ended-with, WaitEnd, add-end, ends-among, ended-waits, Cause, is-head, causes, first-cause, takes-effect, due-to, row-after, wait-begins, begun-wait, defines, WaitsEndAsDue, EndedWaitsAreDue, is-some, TickCountsEnds, NoWaitBegins, FetchOf, FetchGivesStoredPair, FetchGivesWhatWasDue}
 use Rattle.model.specs.declared.Answer.{Answer}
 use Rattle.model.proofs.Tests.{from-within, or-left, or-right, not-both-left}
 use Rattle.model.proofs.Choices.{cond-yes, cond-no}
@@ -267,22 +267,23 @@ read-ended x y g waited rested = go (able (x .wait)) (λ h. h) waited rested
     go true own h k = sym (k tt)
     go false own h k = subst (λ (z : TaskRow). cond (not (not (able (z .wait)))) (some (record { code = z .code; word = z .word })) none ≡ g) (sym (h tt)) (kept g (own tt))
 
-pub ended-waits-are-due : EndedWaitsAreDue
-ended-waits-are-due m c w = (each, ap (λ given. ends-among given (ascending 1 task-limit)) (fun-ext each))
-  where
-    each : (t : ℕ) → ended-with (m .rows) (step m c .state .rows) t ≡ due-to m c t
-    each t = read-ended (m .rows (task t)) (row-after m c t) (due-to m c t) (λ h. by (due-to m c t) refl h) (waits-end-as-due m c t w .nothing-due)
-      where
-        by : (g : Option CodeAndWord) → due-to m c t ≡ g → T (is-waiting (m .rows) t) → row-after m c t ≡ as-due (due-to m c t) (m .rows (task t))
-        by none e h = rw e (waits-end-as-due m c t w .goes-on h e)
-        by (some d) e h = rw e (waits-end-as-due m c t w .ends d h e)
+given-if : (b : Bool) (e : CodeAndWord) → is-some (cond b (some e) none) ≡ b
+given-if true e = refl
+given-if false e = refl
 
-pub waits-end-where-due : WaitsEndWhereDue
-waits-end-where-due m c t w = sym (given-if (wait-ended (m .rows) (step m c .state .rows) t) _) ∙ ap is-some (ended-waits-are-due m c w .0 t)
+pub ended-waits-are-due : EndedWaitsAreDue
+ended-waits-are-due m c w = record {
+  where-due = λ t. sym (given-if (wait-ended (m .rows) (step m c .state .rows) t) _) ∙ ap is-some (each t);
+  as-due = each;
+  all-as-due = ap (λ given. ends-among given (ascending 1 task-limit)) (fun-ext each);
+}
   where
-    given-if : (b : Bool) (e : CodeAndWord) → is-some (cond b (some e) none) ≡ b
-    given-if true e = refl
-    given-if false e = refl
+    row-is : (t : ℕ) (g : Option CodeAndWord) → due-to m c t ≡ g → T (is-waiting (m .rows) t) → row-after m c t ≡ as-due (due-to m c t) (m .rows (task t))
+    row-is t none e h = rw e (waits-end-as-due m c t w .goes-on h e)
+    row-is t (some d) e h = rw e (waits-end-as-due m c t w .ends d h e)
+
+    each : (t : ℕ) → ended-with (m .rows) (step m c .state .rows) t ≡ due-to m c t
+    each t = read-ended (m .rows (task t)) (row-after m c t) (due-to m c t) (row-is t (due-to m c t) refl) (waits-end-as-due m c t w .nothing-due)
 
 -- ── The tick's count ──
 
@@ -320,7 +321,7 @@ module _ (counter : ℕ) (m : Program.Rows Row) where
 tick-counts : (m : Model) (c : Call) → WellFormed m → step m (numbered 0 c) .answer ≡ finished E-OK (length (ended-waits (m .rows) (step m (numbered 0 c) .state .rows))) 0 0
 unfolding step tick due-to causes first-cause one-of
 tick-counts m c w = counts ((m .environment .counter + 1) % counter-span) (m .rows) task-limit 1 0 (m .rows) (λ t h. refl) .holds
-    ∙ (ap (λ n. finished E-OK n 0 0) (zero-add _) ∙ ap (λ (l : List WaitEnd). finished E-OK (length l) 0 0) (sym (ended-waits-are-due m (numbered 0 c) w .1)))
+    ∙ (ap (λ n. finished E-OK n 0 0) (zero-add _) ∙ ap (λ (l : List WaitEnd). finished E-OK (length l) 0 0) (sym (ended-waits-are-due m (numbered 0 c) w .all-as-due)))
 
 pub tick-counts-ends : TickCountsEnds
 tick-counts-ends m c w h =

@@ -143,20 +143,21 @@ pub record EndsAsDue (m : Model) (c : Call) (t : ℕ) : Type 0 where
 abbrev pub WaitsEndAsDue : Type 0
 WaitsEndAsDue = (m : Model) (c : Call) (t : ℕ) → WellFormed m → EndsAsDue m c t
 
--- The same of the waits that ended, read off the two states: the tasks, codes and words are those due, in ascending task number.
-abbrev pub EndedWaitsAreDue : Type 0
-EndedWaitsAreDue =
-    (m : Model) (c : Call) → WellFormed m
-    → ((t : ℕ) → ended-with (m .rows) (step m c .state .rows) t ≡ due-to m c t)
-    × (ended-waits (m .rows) (step m c .state .rows) ≡ ends-among (due-to m c) (ascending 1 task-limit))
-
--- A wait has ended exactly where something was due.
+-- The same of the waits that ended, read off the states before and after.
 abbrev pub is-some : Option CodeAndWord → Bool
 is-some none = false
 is-some (some e) = true
 
-abbrev pub WaitsEndWhereDue : Type 0
-WaitsEndWhereDue = (m : Model) (c : Call) (t : ℕ) → WellFormed m → wait-ended (m .rows) (step m c .state .rows) t ≡ is-some (due-to m c t)
+pub record EndedAreDue (m : Model) (c : Call) : Type 0 where
+  -- A wait has ended exactly where something was due to it,
+  pub where-due : (t : ℕ) → wait-ended (m .rows) (step m c .state .rows) t ≡ is-some (due-to m c t)
+  -- with the code and word that were due;
+  pub as-due : (t : ℕ) → ended-with (m .rows) (step m c .state .rows) t ≡ due-to m c t
+  -- and so are all of them, in ascending task number.
+  pub all-as-due : ended-waits (m .rows) (step m c .state .rows) ≡ ends-among (due-to m c) (ascending 1 task-limit)
+
+abbrev pub EndedWaitsAreDue : Type 0
+EndedWaitsAreDue = (m : Model) (c : Call) → WellFormed m → EndedAreDue m c
 
 -- "Several in one tick end in ascending task number; a is how many."
 abbrev pub TickCountsEnds : Type 0
