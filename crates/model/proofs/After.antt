@@ -26,8 +26,8 @@ pub record After (Q : Program.Rows Row → Answer → Type 0) (p : Effect) (m : 
   pub holds : Q (run same-key p m .state) (run same-key p m .answer)
 
 -- The rows that are left are well-formed, whatever the answer.
-abbrev pub Kept : ℕ → (ℕ → ℕ) → Program.Rows Row → Answer → Type 0
-Kept counter soonest n a = WellFormedRows counter soonest n
+abbrev pub Kept : Program.Rows Row → Answer → Type 0
+Kept n a = WellFormedRows n
 
 module _ {Q : Program.Rows Row → Answer → Type 0} where
   -- ── The forms of a program ──

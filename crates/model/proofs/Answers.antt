@@ -275,7 +275,7 @@ fewer-than limit t l o absent own others =
     below : (x : ℕ) → In x (0 ∷ t ∷ l) → x < suc limit
     below x i = ⊎-elim (λ e. omega arith) (λ j. ⊎-elim (λ e. let k = from-within 1 limit t own .1 in omega arith) (λ k. let h = from-within 1 limit x (others x k) .1 in omega arith) (List·Memᴰ·cases-cons j)) (List·Memᴰ·cases-cons i)
 
-module _ {counter : ℕ} {soonest : ℕ → ℕ} {m : Program.Rows Row} (w : WellFormedRows counter soonest m) where
+module _ {m : Program.Rows Row} (w : WellFormedRows m) where
   -- A task that doesn't wait stands in no wait queue, so 31 others stand there at the most.
   fewer-standing : (t : ℕ) → T (valid (task t)) → m (task t) .wait ≡ NoWait → (k : WaitQueue) → length (standing-in m k) < task-limit
   fewer-standing t own able k = fewer-than task-limit t (standing-in m k) (w .waiting .no-twice k)

@@ -28,7 +28,7 @@ able-no-wait (Receiving q end) t = absurd t
 able-no-wait (AtMailbox b end) t = absurd t
 
 -- The end of a wait that starts now, with a tmout of 1 or more or with none, is ahead and not too far.
-end-ahead : (counter : ℕ) (tmout : ℤ) → counter < counter-span → T (not (is-zero tmout)) → T (not (ltZ (pos tmout-limit) tmout)) → EndAhead counter 1 (end-of counter tmout)
+end-ahead : (counter : ℕ) (tmout : ℤ) → counter < counter-span → T (not (is-zero tmout)) → T (not (ltZ (pos tmout-limit) tmout)) → EndAhead counter (end-of counter tmout)
 unfolding end-of
 end-ahead counter (pos n) inside some low =
     let above = nltb→le tmout-limit n low in
@@ -107,7 +107,7 @@ module _ {v : View} {c : Call} (p : Passes v c) where
       (not-both-left (eqb (c .number) 7 && eqb (v .the-queue .capacity) 0) (empty (v .the-queue .receivers)) (p .step-6d) k) h
 
   -- A call that would wait is no poll, so its wait ends in time.
-  pub wait-ends : (counter : ℕ) → counter < counter-span → T (has-tmout c) → T (would-wait v c) → EndAhead counter 1 (end-of counter (c .tmout))
+  pub wait-ends : (counter : ℕ) → counter < counter-span → T (has-tmout c) → T (would-wait v c) → EndAhead counter (end-of counter (c .tmout))
   unfolding polls tmout-outside
   wait-ends counter inside h k =
       end-ahead counter (c .tmout) inside

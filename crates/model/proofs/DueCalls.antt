@@ -14,7 +14,7 @@ use Rattle.lists.specs.Lists.{empty, one-of}
 use Rattle.lists.proofs.Positions.{EachNumbered, _then_, at-number}
 use Rattle.rows.specs.Program as Program
 use Rattle.rows.specs.Program.{update}
-use Rattle.model.specs.Sizes.{call-limit, within}
+use Rattle.model.specs.Sizes.{call-limit}
 use Rattle.model.specs.Rows.{task, message, same-key, Row, TaskRow, QueueRow, MailboxRow, Environment, Effect, Model, has-room}
 use Rattle.model.specs.Codes.{Code, E-OK, E-RLWAI, E-DLT, waits, finished}
 use Rattle.model.specs.Calls.{Call, View, task-priority-of, view-of}
@@ -28,7 +28,7 @@ use Rattle.model.specs.Step.{effects, effect, no-call}
 use Rattle.model.specs.Answers.{is-wait}
 use Rattle.model.specs.Endings.{CodeAndWord, is-head, causes, first-cause, begun-wait}
 use Rattle.model.specs.declared.Answer.{Answer}
-use Rattle.model.proofs.Tests.{from-within, neither-left}
+use Rattle.model.proofs.Tests.{neither-left}
 use Rattle.model.proofs.Standing.{task-cases}
 use Rattle.model.proofs.Step.{numbered}
 use Rattle.model.proofs.Accepted.{Passes, Accepted}

@@ -40,10 +40,10 @@ module _ (code : Code) where
     unfolding same-key update
     messages-left b = rw (set-standing-is c l m)
 
-  pub after-end-waits : {Q : Program.Rows Row → Answer → Type 0} {counter : ℕ} {soonest : ℕ → ℕ} → T (ends-a-wait code) →
+  pub after-end-waits : {Q : Program.Rows Row → Answer → Type 0} → T (ends-a-wait code) →
       (c : WaitQueue) (l : List ℕ) (p : Effect) (m : Program.Rows Row)
-      → WellFormedRows counter soonest m → standing-in m c ≡ l
-      → ((n : Program.Rows Row) → WellFormedRows counter soonest n → Emptied c m n → After Q p n) → After Q (end-waits l code p) m
+      → WellFormedRows m → standing-in m c ≡ l
+      → ((n : Program.Rows Row) → WellFormedRows n → Emptied c m n → After Q p n) → After Q (end-waits l code p) m
   unfolding end-waits headD empty
   after-end-waits ends c [] p m w e h = h m w (record { no-one = e; other-lists = λ d n. refl; messages = λ b. refl })
   after-end-waits ends c (t ∷ ts) p m w e h =

@@ -27,11 +27,11 @@ use Rattle.model.specs.Calls.{Call, View, calls, view-of}
 use Rattle.model.specs.Waits.{Wait, NoWait, Sending, Receiving, AtMailbox, able, ended, wait-end, due, WaitQueue, senders-of, receivers-of, waiters-of, wait-queue}
 use Rattle.model.specs.Errors.{refused}
 use Rattle.model.specs.Tasks.{expire, tick}
-use Rattle.model.specs.Step.{effects, effect, step}
-use Rattle.model.specs.WellFormed.{WellFormed}
+use Rattle.model.specs.Step.{effect, step}
+use Rattle.model.specs.WellFormed.{WellFormedRows, WellFormed}
 use Rattle.model.specs.Answers.{is-wait}
 use Rattle.model.specs.WaitQueues.{standing-in}
-use Rattle.model.specs.Endings.{is-waiting, wait-ended, CodeAndWord, ended-with, WaitEnd, add-end, ends-among, ended-waits, Cause, is-head, causes, first-cause, takes-effect, due-to, row-after, wait-begins, begun-wait, defines, WaitsEndAsDue, EndedWaitsAreDue, is-some, TickCountsEnds, NoWaitBegins, FetchOf, FetchGivesStoredPair, FetchGivesWhatWasDue}
+use Rattle.model.specs.Endings.{is-waiting, wait-ended, CodeAndWord, ended-with, WaitEnd, add-end, ends-among, ended-waits, Cause, is-head, causes, first-cause, takes-effect, due-to, row-after, wait-begins, begun-wait, defines, WaitsEndAsDue, EndedWaitsAreDue, is-some, TickCountsEnds}
 use Rattle.model.specs.declared.Answer.{Answer}
 use Rattle.model.proofs.Tests.{from-within, or-left, or-right, not-both-left}
 use Rattle.model.proofs.Choices.{cond-yes, cond-no}
@@ -44,7 +44,6 @@ use Rattle.model.proofs.WaitMoves.{is-valid}
 use Rattle.model.proofs.After.{After, after-return, after-get, after-if}
 use Rattle.model.proofs.KeptCalls.{Valid}
 use Rattle.model.proofs.KeptTick.{due-waits}
-use Rattle.model.proofs.WellFormed.{kept-well-formed}
 use Rattle.model.proofs.TaskRows.{SameTasks, after-end-wait-tasks}
 use Rattle.model.proofs.Shown.{shown-task, some-queue-shown, some-mailbox-shown}
 use Rattle.model.proofs.Answers.{waits-exactly}
@@ -88,10 +87,10 @@ module _ (counter t : ℕ) where
 -- ── A whole step ──
 
 -- What a step leaves of the row of t.
-record StepTurn (m : Model) (c : Call) (t : ℕ) : Type 0 where
-  if-begins : T (wait-begins m c t) → Begins (begun-wait m c) (m .rows (task t)) (row-after m c t)
-  if-defines : T (defines m c t) → Defines c (m .rows (task t)) (row-after m c t)
-  else-due : T (not (wait-begins m c t)) → T (not (defines m c t)) → row-after m c t ≡ as-due (due-to m c t) (m .rows (task t))
+pub record StepTurn (m : Model) (c : Call) (t : ℕ) : Type 0 where
+  pub if-begins : T (wait-begins m c t) → Begins (begun-wait m c) (m .rows (task t)) (row-after m c t)
+  pub if-defines : T (defines m c t) → Defines c (m .rows (task t)) (row-after m c t)
+  pub else-due : T (not (wait-begins m c t)) → T (not (defines m c t)) → row-after m c t ≡ as-due (due-to m c t) (m .rows (task t))
 
 -- Both tests pass where the first does, if the second then does.
 first-enough : (a b : Bool) → (T a → T b) → (a && b) ≡ a
@@ -99,15 +98,12 @@ first-enough true true h = refl
 first-enough true false h = absurd (h tt)
 first-enough false b h = refl
 
-tick-turn : (m : Model) (c : Call) (t : ℕ) → WellFormed m → StepTurn m (numbered 0 c) t
-unfolding step tick due-to causes first-cause one-of
-tick-turn m c t w = record {
-  if-begins = λ h. absurd (subst (λ b. T (b && eqb t (c .caller))) (waits-exactly m (numbered 0 c)) h);
-  if-defines = λ h. absurd h;
-  else-due = λ h k. left-expired next t (ascending 1 task-limit) 0 (m .rows) .holds
-      ∙ (ap (λ b. cond b (ended E-TMOUT 0 x) x) (first-enough (due next (wait-end (x .wait))) (one-of t (ascending 1 task-limit)) counted)
-      ∙ ended-if (due next (wait-end (x .wait))) (record { code = E-TMOUT; word = 0 }) x);
-}
+-- The tick ends the waits that are due.
+pub ticked-row : (m : Model) (t : ℕ) → WellFormedRows (m .rows)
+    → tick m .state .rows (task t) ≡ cond (due ((m .environment .counter + 1) % counter-span) (wait-end (m .rows (task t) .wait))) (ended E-TMOUT 0 (m .rows (task t))) (m .rows (task t))
+unfolding tick
+ticked-row m t w = left-expired next t (ascending 1 task-limit) 0 (m .rows) .holds
+    ∙ ap (λ b. cond b (ended E-TMOUT 0 x) x) (first-enough (due next (wait-end (x .wait))) (one-of t (ascending 1 task-limit)) counted)
   where
     next : ℕ
     next = (m .environment .counter + 1) % counter-span
@@ -118,8 +114,17 @@ tick-turn m c t w = record {
     -- Every task that waits has its turn.
     counted : T (due next (wait-end (x .wait))) → T (one-of t (ascending 1 task-limit))
     counted is-due =
-        let k = from-within 1 task-limit t (is-valid (w .rows) (task t) (λ e. T-not (able (x .wait)) (due-waits next (x .wait) is-due) (subst (λ (y : TaskRow). T (able (y .wait))) (sym e) tt))) in
+        let k = from-within 1 task-limit t (is-valid w (task t) (λ e. T-not (able (x .wait)) (due-waits next (x .wait) is-due) (subst (λ (y : TaskRow). T (able (y .wait))) (sym e) tt))) in
         one-of-ascending task-limit 1 t (k .0) (let high = k .1 in omega arith)
+
+tick-turn : (m : Model) (c : Call) (t : ℕ) → WellFormed m → StepTurn m (numbered 0 c) t
+unfolding step due-to causes first-cause one-of
+tick-turn m c t w = record {
+  if-begins = λ h. absurd (subst (λ b. T (b && eqb t (c .caller))) (waits-exactly m (numbered 0 c)) h);
+  if-defines = λ h. absurd h;
+  else-due = λ h k. ticked-row m t (w .rows)
+      ∙ ended-if (due ((m .environment .counter + 1) % counter-span) (wait-end (m .rows (task t) .wait))) (record { code = E-TMOUT; word = 0 }) (m .rows (task t));
+}
 
 module _ (m : Model) (c : Call) (t : ℕ) (call-case : T (not (eqb (c .number) 0))) where
   refused-turn : T (refused (view-of m c) c) → StepTurn m c t
@@ -149,7 +154,7 @@ module _ (m : Model) (c : Call) (t : ℕ) (call-case : T (not (eqb (c .number) 0
       turn = subst (λ (o : Program.Result Model Answer). Turn c (begun-wait m c) t (first-cause (causes m c t)) (m .rows (task t)) (o .state .rows (task t)) (o .answer)) (sym same)
           (left-effect m c t (accepted Valid (view-of m c) c (each-of-all (λ k h. h) _) ok) (passes (view-of m c) c ok) .holds)
 
-step-turn : (m : Model) (c : Call) (t : ℕ) → WellFormed m → StepTurn m c t
+pub step-turn : (m : Model) (c : Call) (t : ℕ) → WellFormed m → StepTurn m c t
 step-turn m c t w = go (eqb (c .number) 0) (refused (view-of m c) c) (eqb→eq (c .number) 0) (λ h. h) (λ h. h) (λ h. h)
   where
     go : (b r : Bool) → (T b → c .number ≡ 0) → (T (not b) → T (not (eqb (c .number) 0))) → (T r → T (refused (view-of m c) c)) → (T (not r) → T (not (refused (view-of m c) c))) → StepTurn m c t
@@ -326,47 +331,3 @@ tick-counts m c w = counts ((m .environment .counter + 1) % counter-span) (m .ro
 pub tick-counts-ends : TickCountsEnds
 tick-counts-ends m c w h =
     subst (λ n. step m (numbered n c) .answer ≡ finished E-OK (length (ended-waits (m .rows) (step m (numbered n c) .state .rows))) 0 0) (sym (eqb→eq (c .number) 0 h)) (tick-counts m c w)
-
--- ── Fetch ──
-
--- The row of a task that is defined and doesn't wait stays until its next wait begins.
-stays-until : (m : Model) (t : ℕ) → WellFormed m → T (m .rows (task t) .defined) → T (not (is-waiting (m .rows) t)) → (cs : List Call) → NoWaitBegins t m cs
-    → end step m cs .rows (task t) ≡ m .rows (task t)
-unfolding NoWaitBegins end
-stays-until m t w defined-task no-wait [] b = refl
-stays-until m t w defined-task no-wait (c ∷ cs) b =
-    let same : row-after m c t ≡ m .rows (task t) = waits-end-as-due m c t w .stays no-wait (b .0)
-    (not-T (defines m c t) (λ d. T-not (m .rows (task t) .defined) (waits-end-as-due m c t w .defined d .0) defined-task)) in
-    stays-until (step m c .state) t (kept-well-formed m c w) (subst (λ (x : TaskRow). T (x .defined)) (sym same) defined-task)
-    (subst (λ (x : TaskRow). T (not (not (able (x .wait))))) (sym same) no-wait) cs (b .1) ∙ same
-
--- An accepted fetch answers the pair of the row in view.
-fetch-answers : (m : Model) (f : Call) → T (not (refused (view-of m (numbered 23 f)) (numbered 23 f)))
-    → step m (numbered 23 f) .answer ≡ finished (view-of m (numbered 23 f) .the-task .code) (view-of m (numbered 23 f) .the-task .word) 0 0
-unfolding step-of effect effects run
-fetch-answers m f ok = rw (step-call m (numbered 23 f) tt, run-accepted m (numbered 23 f) ok)
-
-fetch-gives : (m : Model) (t : ℕ) (f : Call) → FetchOf t m f → step m f .answer ≡ finished (m .rows (task t) .code) (m .rows (task t) .word) 0 0
-unfolding one-of
-fetch-gives m t f h = subst (λ n. T (not (refused (view-of m (numbered n f)) (numbered n f))) → step m (numbered n f) .answer ≡ finished (m .rows (task t) .code) (m .rows (task t) .word) 0 0)
-    (sym (eqb→eq (f .number) 23 (h .is-fetch))) at-23 (h .accepted)
-  where
-    at-23 : T (not (refused (view-of m (numbered 23 f)) (numbered 23 f))) → step m (numbered 23 f) .answer ≡ finished (m .rows (task t) .code) (m .rows (task t) .word) 0 0
-    at-23 ok =
-        let a = accepted Valid (view-of m (numbered 23 f)) (numbered 23 f) (each-of-all (λ k i. i) _) ok in
-        fetch-answers m f ok ∙ ap (λ (x : TaskRow). finished (x .code) (x .word) 0 0) (shown-task m (numbered 23 f) tt (a .task-in tt) ∙ ap (λ n. m .rows (task n)) (h .names-it))
-
-pub fetch-gives-stored-pair : FetchGivesStoredPair
-fetch-gives-stored-pair m t w defined-task no-wait cs b f h =
-    fetch-gives (end step m cs) t f h ∙ ap (λ (x : TaskRow). finished (x .code) (x .word) 0 0) (stays-until m t w defined-task no-wait cs b)
-
--- A task that waits is defined.
-waits-defined : {m : Model} → WellFormed m → (t : ℕ) → T (is-waiting (m .rows) t) → T (m .rows (task t) .defined)
-waits-defined {m} w t h = T-not-not (m .rows (task t) .defined) (not-T (not (m .rows (task t) .defined)) (λ u. subst (λ (z : Wait). T (not (able z))) (w .rows .tasks t .undefined u) h))
-
-pub fetch-gives-what-was-due : FetchGivesWhatWasDue
-fetch-gives-what-was-due m c t e w h d cs b f k =
-    let same : row-after m c t ≡ ended (e .code) (e .word) (m .rows (task t)) = waits-end-as-due m c t w .ends e h d in
-    fetch-gives-stored-pair (step m c .state) t (kept-well-formed m c w) (subst (λ (x : TaskRow). T (x .defined)) (sym same) (waits-defined w t h))
-    (subst (λ (x : TaskRow). T (not (not (able (x .wait))))) (sym same) tt) cs b f k
-    ∙ ap (λ (x : TaskRow). finished (x .code) (x .word) 0 0) same

@@ -20,7 +20,7 @@ use Rattle.model.specs.Calls.{Call, View, capacity-of}
 use Rattle.model.specs.Waits.{End, NoWait, Sending, Receiving, held-word, ended, senders-of, receivers-of}
 use Rattle.model.specs.WaitQueues.{place, release, set-standing}
 use Rattle.model.specs.DataQueues.{deliver, store, replace-oldest, wait-to-send, send, take-oldest, take-oldest-and-refill, take-from-sender, wait-to-receive, receive, cre-dtq, del-dtq}
-use Rattle.model.specs.WellFormed.{EndAhead, QueueWellFormed, WellFormedRows}
+use Rattle.model.specs.WellFormed.{QueueWellFormed, WellFormedRows}
 use Rattle.model.proofs.Choices.{cond-yes}
 use Rattle.model.proofs.Standing.{put-twice}
 use Rattle.model.proofs.WaitMoves.{defined-queue, leave-head, join}
@@ -39,12 +39,11 @@ length-replaced [] word t = absurd t
 length-replaced (y ∷ l) word t = length-append l (word ∷ []) ∙ omega arith
 
 -- What is known of a caller that may wait.
-pub record CanWait (counter : ℕ) (soonest : ℕ → ℕ) (m : Program.Rows Row) (me : ℕ) (end : End) : Type 0 where
+pub record CanWait (m : Program.Rows Row) (me : ℕ) : Type 0 where
   pub defined : T (m (task me) .defined)
   pub able : m (task me) .wait ≡ NoWait
-  pub end-ahead : EndAhead counter (soonest me) end
 
-module _ {counter : ℕ} {soonest : ℕ → ℕ} {m : Program.Rows Row} (w : WellFormedRows counter soonest m) (q : ℕ) (defined : T (m (queue q) .defined)) where
+module _ {m : Program.Rows Row} (w : WellFormedRows m) (q : ℕ) (defined : T (m (queue q) .defined)) where
   abbrev x : QueueRow
   x = m (queue q)
 
@@ -62,26 +61,26 @@ module _ {counter : ℕ} {soonest : ℕ → ℕ} {m : Program.Rows Row} (w : Wel
   }
 
   put-words : (words : List ℕ) → length words ≤ x .capacity → (T (not (empty (x .senders))) → length words ≡ x .capacity) → (T (not (empty (x .receivers))) → words ≡ [])
-      → WellFormedRows counter soonest (update same-key (queue q) (with-words words x) m)
+      → WellFormedRows (update same-key (queue q) (with-words words x) m)
   put-words words count full none-stored = put-queue w q (with-words words x) (defined-queue w q defined)
       (refit words (x .senders) (x .receivers) count (λ s. (full s, w .queues q .senders s .1)) (λ r. (none-stored r, w .queues q .receivers r .1)))
       refl refl (w .waiting-in-order (senders-of q))
 
   -- ── Send ──
 
-  kept-deliver : (word : ℕ) → T (not (empty (x .receivers))) → After (Kept counter soonest) (deliver q x word) m
+  kept-deliver : (word : ℕ) → T (not (empty (x .receivers))) → After Kept (deliver q x word) m
   unfolding deliver release set-standing same-key update
   kept-deliver word some-receiver = after-put (after-get (after-put (after-return (leave-head w (receivers-of q) E-OK word tt some-receiver))))
 
-  kept-store : (word : ℕ) → T (has-room x) → T (empty (x .receivers)) → After (Kept counter soonest) (store q x word) m
+  kept-store : (word : ℕ) → T (has-room x) → T (empty (x .receivers)) → After Kept (store q x word) m
   unfolding store
   kept-store word room no-receiver =
       let below = ltb-yes {a = length (x .words)} {b = x .capacity} room in
       let longer = length-append (x .words) (word ∷ []) in
       after-put (after-return (put-words _ (omega arith) (λ s. let full = w .queues q .senders s .0 in absurd (omega arith)) (λ r. absurd (T-not (empty (x .receivers)) r no-receiver))))
 
-  pub kept-send : (word : ℕ) (otherwise : Effect) → (T (empty (x .receivers)) → T (not (has-room x)) → After (Kept counter soonest) otherwise m)
-      → After (Kept counter soonest) (send q x word otherwise) m
+  pub kept-send : (word : ℕ) (otherwise : Effect) → (T (empty (x .receivers)) → T (not (has-room x)) → After Kept otherwise m)
+      → After Kept (send q x word otherwise) m
   unfolding send
   kept-send word otherwise h = after-if (kept-deliver word) (λ none. after-if (λ room. kept-store word room (T-not-not (empty (x .receivers)) none)) (h (T-not-not (empty (x .receivers)) none)))
 
@@ -90,25 +89,25 @@ module _ {counter : ℕ} {soonest : ℕ → ℕ} {m : Program.Rows Row} (w : Wel
     full : length (x .words) ≡ x .capacity
     full = let above = ltb-no {a = length (x .words)} {b = x .capacity} no-room in let below = w .queues q .count in omega arith
 
-    pub kept-replace-oldest : (word : ℕ) → T (not (eqb (x .capacity) 0)) → After (Kept counter soonest) (replace-oldest q x word) m
+    pub kept-replace-oldest : (word : ℕ) → T (not (eqb (x .capacity) 0)) → After Kept (replace-oldest q x word) m
     unfolding replace-oldest
     kept-replace-oldest word some-capacity =
         let same = length-replaced (x .words) word (not-T (empty (x .words)) (λ e. eqb-no {a = x .capacity} some-capacity (sym full ∙ ap length (empty-nil e)))) in
         let count = w .queues q .count in
         after-put (after-return (put-words _ (omega arith) (λ s. same ∙ full) (λ r. absurd (T-not (empty (x .receivers)) r no-receiver))))
 
-    pub kept-wait-to-send : (me word : ℕ) (end : End) → CanWait counter soonest m me end → After (Kept counter soonest) (wait-to-send q x me (m (task me)) word end) m
+    pub kept-wait-to-send : (me word : ℕ) (end : End) → CanWait m me → After Kept (wait-to-send q x me (m (task me)) word end) m
     unfolding wait-to-send set-standing place
     kept-wait-to-send me word end can =
         after-get-each task _ _ _ (after-put (after-put (after-return
         (join w me (senders-of q) _ (Sending q end word) (can .defined) (can .able) (defined-queue w q defined)
         (refit (x .words) (insert-at _ me (x .senders)) (x .receivers) (w .queues q .count) (λ s. (full, empty-nil no-receiver)) (λ r. absurd (T-not (empty (x .receivers)) r no-receiver)))
-        refl (can .end-ahead) (λ b. cond-yes (senders-by-priority (x .attribute)) _ (length (map (λ n. m (task n) .priority) (x .senders))) b)))))
+        refl (λ b. cond-yes (senders-by-priority (x .attribute)) _ (length (map (λ n. m (task n) .priority) (x .senders))) b)))))
 
   -- ── Receive ──
 
   module _ (some-word : T (not (empty (x .words)))) where
-    kept-take-oldest : T (empty (x .senders)) → After (Kept counter soonest) (take-oldest q x) m
+    kept-take-oldest : T (empty (x .senders)) → After Kept (take-oldest q x) m
     unfolding take-oldest
     kept-take-oldest no-sender =
         let shorter = length-tail (x .words) in
@@ -116,19 +115,19 @@ module _ {counter : ℕ} {soonest : ℕ → ℕ} {m : Program.Rows Row} (w : Wel
         after-put (after-return (put-words _ (omega arith) (λ s. absurd (T-not (empty (x .senders)) s no-sender)) (λ r. ap tail (w .queues q .receivers r .0))))
 
     -- The words first, then the head sender leaves.
-    refilled : (words : List ℕ) → T (not (empty (x .senders))) → WellFormedRows counter soonest (update same-key (queue q) (with-words words x) m)
-        → WellFormedRows counter soonest (update same-key (task (headD (x .senders) 0)) (ended E-OK 0 (m (task (headD (x .senders) 0)))) (update same-key (queue q) (with-senders (tail (x .senders)) (with-words words x)) m))
+    refilled : (words : List ℕ) → T (not (empty (x .senders))) → WellFormedRows (update same-key (queue q) (with-words words x) m)
+        → WellFormedRows (update same-key (task (headD (x .senders) 0)) (ended E-OK 0 (m (task (headD (x .senders) 0)))) (update same-key (queue q) (with-senders (tail (x .senders)) (with-words words x)) m))
     unfolding set-standing same-key update
     refilled words some-sender stored =
         let y = with-words words x in
         let is-y = update-same same-key (queue q) y m in
-        subst (λ (n : Program.Rows Row). WellFormedRows counter soonest (update same-key (task (headD (x .senders) 0)) (ended E-OK 0 (m (task (headD (x .senders) 0)))) n))
+        subst (λ (n : Program.Rows Row). WellFormedRows (update same-key (task (headD (x .senders) 0)) (ended E-OK 0 (m (task (headD (x .senders) 0)))) n))
         (put-twice (queue q) y (with-senders (tail (x .senders)) y) m)
-        (subst (λ (z : QueueRow). WellFormedRows counter soonest (update same-key (task (headD (z .senders) 0)) (ended E-OK 0 (m (task (headD (z .senders) 0))))
+        (subst (λ (z : QueueRow). WellFormedRows (update same-key (task (headD (z .senders) 0)) (ended E-OK 0 (m (task (headD (z .senders) 0))))
         (update same-key (queue q) (with-senders (tail (z .senders)) z) (update same-key (queue q) y m)))) is-y
         (leave-head stored (senders-of q) E-OK 0 tt (subst (λ (z : QueueRow). T (not (empty (z .senders)))) (sym is-y) some-sender)))
 
-    kept-take-oldest-and-refill : T (not (empty (x .senders))) → After (Kept counter soonest) (take-oldest-and-refill q x) m
+    kept-take-oldest-and-refill : T (not (empty (x .senders))) → After Kept (take-oldest-and-refill q x) m
     unfolding take-oldest-and-refill empty
     kept-take-oldest-and-refill some-sender =
         let y = w .queues q .senders some-sender in
@@ -137,34 +136,34 @@ module _ {counter : ℕ} {soonest : ℕ → ℕ} {m : Program.Rows Row} (w : Wel
         after-get (after-put (after-put (after-return (refilled _ some-sender
         (put-words _ (omega arith) (λ s. same ∙ y .0) (λ r. absurd (T-not (empty (x .words)) some-word (subst (λ (l : List ℕ). T (empty l)) (sym (w .queues q .receivers r .0)) tt))))))))
 
-  kept-take-from-sender : T (not (empty (x .senders))) → After (Kept counter soonest) (take-from-sender q x) m
+  kept-take-from-sender : T (not (empty (x .senders))) → After Kept (take-from-sender q x) m
   unfolding take-from-sender set-standing same-key update
   kept-take-from-sender some-sender = after-get (after-put (after-put (after-return (leave-head w (senders-of q) E-OK 0 tt some-sender))))
 
-  pub kept-receive : (otherwise : Effect) → (T (empty (x .words)) → T (empty (x .senders)) → After (Kept counter soonest) otherwise m)
-      → After (Kept counter soonest) (receive q x otherwise) m
+  pub kept-receive : (otherwise : Effect) → (T (empty (x .words)) → T (empty (x .senders)) → After Kept otherwise m)
+      → After Kept (receive q x otherwise) m
   unfolding receive
   kept-receive otherwise h =
       after-if (λ words. after-if (kept-take-oldest words) (kept-take-oldest-and-refill words))
       (λ none. after-if kept-take-from-sender (λ no-sender. h (T-not-not (empty (x .words)) none) (T-not-not (empty (x .senders)) no-sender)))
 
   -- At an empty queue with no sender.
-  pub kept-wait-to-receive : (me : ℕ) (end : End) → T (empty (x .words)) → T (empty (x .senders)) → CanWait counter soonest m me end
-      → After (Kept counter soonest) (wait-to-receive q x me (m (task me)) end) m
+  pub kept-wait-to-receive : (me : ℕ) (end : End) → T (empty (x .words)) → T (empty (x .senders)) → CanWait m me
+      → After Kept (wait-to-receive q x me (m (task me)) end) m
   unfolding wait-to-receive set-standing
   kept-wait-to-receive me end no-word no-sender can =
       after-put (after-put (after-return (rw (insert-at-end me (x .receivers)) at
       (join w me (receivers-of q) (length (x .receivers)) (Receiving q end) (can .defined) (can .able) (defined-queue w q defined)
       (refit (x .words) (x .senders) (insert-at (length (x .receivers)) me (x .receivers)) (w .queues q .count) (λ s. absurd (T-not (empty (x .senders)) s no-sender)) (λ r. (empty-nil no-word, empty-nil no-sender)))
-      refl (can .end-ahead) (λ b. absurd b)))))
+      refl (λ b. absurd b)))))
 
 -- ── Create and delete ──
 
-module _ {counter : ℕ} {soonest : ℕ → ℕ} {m : Program.Rows Row} (w : WellFormedRows counter soonest m) (q : ℕ) where
+module _ {m : Program.Rows Row} (w : WellFormedRows m) (q : ℕ) where
   -- A whole row, where no task waits before and after.
   replace-queue : (v : QueueRow) → T (valid (queue q)) → m (queue q) .senders ≡ [] → m (queue q) .receivers ≡ []
       → v .attribute ≤ 1 → v .capacity ≤ capacity-limit → v .words ≡ [] → v .senders ≡ [] → v .receivers ≡ []
-      → WellFormedRows counter soonest (update same-key (queue q) v m)
+      → WellFormedRows (update same-key (queue q) v m)
   unfolding empty
   replace-queue v valid-queue no-sender no-receiver attribute capacity words senders receivers = put-queue w q v valid-queue
       (record {
@@ -180,14 +179,14 @@ module _ {counter : ℕ} {soonest : ℕ → ℕ} {m : Program.Rows Row} (w : Wel
       not-empty : {l : List ℕ} → l ≡ [] → T (not (empty l)) → ⊥
       not-empty e t = rw e at t
 
-module _ {counter : ℕ} {soonest : ℕ → ℕ} {m : Program.Rows Row} (w : WellFormedRows counter soonest m) (e : Environment) (v : View) (c : Call) where
+module _ {m : Program.Rows Row} (w : WellFormedRows m) (e : Environment) (v : View) (c : Call) where
   pub kept-create-queue : T (valid (queue (c .object))) → T (not (m (queue (c .object)) .defined)) → c .attribute ≤ 1 → capacity-of c ≤ capacity-limit
-      → After (Kept counter soonest) (cre-dtq e v c) m
+      → After Kept (cre-dtq e v c) m
   kept-create-queue valid-queue undefined attribute capacity =
       let before = w .queues (c .object) .undefined undefined in
       after-put (after-return (replace-queue w (c .object) _ valid-queue (before .1) (before .2) attribute capacity refl refl refl))
 
-  pub kept-delete-queue : m (queue (c .object)) ≡ v .the-queue → T (m (queue (c .object)) .defined) → After (Kept counter soonest) (del-dtq e v c) m
+  pub kept-delete-queue : m (queue (c .object)) ≡ v .the-queue → T (m (queue (c .object)) .defined) → After Kept (del-dtq e v c) m
   kept-delete-queue shown defined =
       after-end-waits E-DLT tt (senders-of (c .object)) _ _ m w (ap (λ (y : QueueRow). y .senders) shown) λ n u a.
       after-end-waits E-DLT tt (receivers-of (c .object)) _ _ n u (a .other-lists (receivers-of (c .object)) other ∙ ap (λ (y : QueueRow). y .receivers) shown) λ o z b.

@@ -31,25 +31,25 @@ waits-somewhere (Sending q end word) t = record { queue-named = senders-of q; na
 waits-somewhere (Receiving q end) t = record { queue-named = receivers-of q; named = refl }
 waits-somewhere (AtMailbox b end) t = record { queue-named = waiters-of b; named = refl }
 
-module _ {counter : ℕ} {soonest : ℕ → ℕ} {m : Program.Rows Row} (w : WellFormedRows counter soonest m) (e : Environment) (v : View) (c : Call) (valid-task : T (valid (task (c .object)))) where
+module _ {m : Program.Rows Row} (w : WellFormedRows m) (e : Environment) (v : View) (c : Call) (valid-task : T (valid (task (c .object)))) where
   pub kept-define-task : T (not (m (task (c .object)) .defined)) → 1 ≤ task-priority-of c → task-priority-of c ≤ priority-limit
-      → After (Kept counter soonest) (define-task e v c) m
+      → After Kept (define-task e v c) m
   kept-define-task undefined low high =
       after-put (after-put (after-return (put-suspension
-      (put-task w (c .object) _ valid-task (record { undefined = λ n. refl; priority-in-range = λ d. (low, high); object-in-range = tt; code = tt; end = tt })
+      (put-task w (c .object) _ valid-task (record { undefined = λ n. refl; priority-in-range = λ d. (low, high); object-in-range = tt; code = tt })
       tt refl (w .tasks (c .object) .undefined undefined))
       (c .object) false valid-task (λ s. absurd s))))
 
-  pub kept-sus-tsk : T (m (task (c .object)) .defined) → After (Kept counter soonest) (sus-tsk e v c) m
+  pub kept-sus-tsk : T (m (task (c .object)) .defined) → After Kept (sus-tsk e v c) m
   kept-sus-tsk defined = after-put (after-return (put-suspension w (c .object) true valid-task (λ s. defined)))
 
-  pub kept-rsm-tsk : After (Kept counter soonest) (rsm-tsk e v c) m
+  pub kept-rsm-tsk : After Kept (rsm-tsk e v c) m
   kept-rsm-tsk = after-put (after-return (put-suspension w (c .object) false valid-task (λ s. absurd s)))
 
 -- The wait of a task ends, and the rest of the program goes on from well-formed rows where it has none.
-pub kept-end-wait : {counter : ℕ} {soonest : ℕ → ℕ} {Q : Program.Rows Row → Answer → Type 0} {m : Program.Rows Row} → WellFormedRows counter soonest m →
+pub kept-end-wait : {Q : Program.Rows Row → Answer → Type 0} {m : Program.Rows Row} → WellFormedRows m →
     (t : ℕ) (code : Code) (p : Effect) → T (ends-a-wait code) → T (not (able (m (task t) .wait)))
-    → ((n : Program.Rows Row) → WellFormedRows counter soonest n → n (task t) .wait ≡ NoWait → After Q p n) → After Q (end-wait t code p) m
+    → ((n : Program.Rows Row) → WellFormedRows n → n (task t) .wait ≡ NoWait → After Q p n) → After Q (end-wait t code p) m
 kept-end-wait {m = m} w t code p ends waits h =
     let s = waits-somewhere (m (task t) .wait) waits in
     let rows = set-standing (s .queue-named) (without t (standing-in m (s .queue-named))) m in

@@ -19,10 +19,12 @@ pub mod KeptTasks
 pub mod Checked
 pub mod KeptCalls
 pub mod KeptTick
-pub mod WellFormed
 pub mod TaskRows
 pub mod Shown
 pub mod Answers
 pub mod DueCalls
 pub mod Endings
+pub mod KeptEnds
+pub mod WellFormed
+pub mod StoredPair
 pub mod TimeOuts

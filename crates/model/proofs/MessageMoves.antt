@@ -32,7 +32,7 @@ names-mailbox b p t = cond-no (eqb b 0) none (some b) (no-eqb (λ (e : b ≡ 0).
 
 -- ── One message ──
 
-module _ {counter : ℕ} {soonest : ℕ → ℕ} {m : Program.Rows Row} (w : WellFormedRows counter soonest m) (b : ℕ) (valid-mailbox : T (valid (mailbox b))) where
+module _ {m : Program.Rows Row} (w : WellFormedRows m) (b : ℕ) (valid-mailbox : T (valid (mailbox b))) where
   -- Message g gets the row x, and mailbox b the messages l.
   module _ (g : ℕ) (x : MessageRow) (l : List ℕ) where
     abbrev changed-row : MailboxRow
@@ -56,7 +56,7 @@ module _ {counter : ℕ} {soonest : ℕ → ℕ} {m : Program.Rows Row} (w : Wel
     message-moved : T (valid (message g)) → MailboxWellFormed changed-row → ((k : ℕ) → k ≢ b → named-mailbox (m (message g)) ≡ some k → ⊥)
         → StandsWhereNamed (λ j. update same-key (mailbox b) changed-row m (mailbox j) .messages) (λ j. named-mailbox (rows j))
         → (T (messages-by-priority (m (mailbox b) .attribute)) → InOrder 1 (m (mailbox b) .highest) (map (λ j. rows j .priority) l))
-        → WellFormedRows counter soonest (update same-key (message g) x (update same-key (mailbox b) changed-row m))
+        → WellFormedRows (update same-key (message g) x (update same-key (mailbox b) changed-row m))
     unfolding same-key update
     message-moved valid-message fits only-here stands order =
         rw (fun-ext same) (put-mailbox w b changed-row rows valid-mailbox fits refl (w .waiting-in-order (waiters-of b)) in-range stands order priorities)
@@ -79,7 +79,7 @@ module _ {counter : ℕ} {soonest : ℕ → ℕ} {m : Program.Rows Row} (w : Wel
   -- A free message joins, at a place by its priority where the messages go by priority, and no task waits there.
   pub join-message : (g n p : ℕ) → T (m (mailbox b) .defined) → T (empty (m (mailbox b) .waiters)) → T (valid (message g)) → T (eqb (m (message g) .queued-in) 0)
       → (T (messages-by-priority (m (mailbox b) .attribute)) → (1 ≤ p) × (p ≤ m (mailbox b) .highest) × (n ≡ passed p (map (λ j. m (message j) .priority) (m (mailbox b) .messages))))
-      → WellFormedRows counter soonest (update same-key (message g) (record { queued-in = b; priority = p }) (update same-key (mailbox b) (with-messages (insert-at n g (m (mailbox b) .messages)) (m (mailbox b))) m))
+      → WellFormedRows (update same-key (message g) (record { queued-in = b; priority = p }) (update same-key (mailbox b) (with-messages (insert-at n g (m (mailbox b) .messages)) (m (mailbox b))) m))
   join-message g n p defined no-waiter valid-message is-free place =
       message-moved g x l valid-message
       (record {
@@ -113,7 +113,7 @@ module _ {counter : ℕ} {soonest : ℕ → ℕ} {m : Program.Rows Row} (w : Wel
 
   -- The head message leaves.
   pub take-head : T (not (empty (m (mailbox b) .messages)))
-      → WellFormedRows counter soonest (update same-key (message (headD (m (mailbox b) .messages) 0)) free (update same-key (mailbox b) (with-messages (tail (m (mailbox b) .messages)) (m (mailbox b))) m))
+      → WellFormedRows (update same-key (message (headD (m (mailbox b) .messages) 0)) free (update same-key (mailbox b) (with-messages (tail (m (mailbox b) .messages)) (m (mailbox b))) m))
   take-head some-message =
       message-moved g free (tail old) (is-valid w (message g) (λ e. Option·none-ne-some b (rw e at here)))
       (record {
@@ -148,7 +148,7 @@ module _ {counter : ℕ} {soonest : ℕ → ℕ} {m : Program.Rows Row} (w : Wel
   -- All messages are freed, and the mailbox gets another row, where no task waits before and after.
   pub replace-mailbox : (v : MailboxRow) → m (mailbox b) .waiters ≡ [] → v .attribute ≤ 3 → (T (messages-by-priority (v .attribute)) → (1 ≤ v .highest) × (v .highest ≤ priority-limit))
       → v .waiters ≡ [] → v .messages ≡ []
-      → WellFormedRows counter soonest (update same-key (mailbox b) v (with-message-rows (freed (m (mailbox b) .messages) m) m))
+      → WellFormedRows (update same-key (mailbox b) v (with-message-rows (freed (m (mailbox b) .messages) m) m))
   unfolding empty
   replace-mailbox v no-waiter attribute highest waiters messages =
       put-mailbox w b v (freed old m) valid-mailbox
@@ -169,8 +169,8 @@ module _ {counter : ℕ} {soonest : ℕ → ℕ} {m : Program.Rows Row} (w : Wel
   -- Where it has no messages, none is freed.
   pub new-mailbox : (v : MailboxRow) → m (mailbox b) .waiters ≡ [] → m (mailbox b) .messages ≡ [] → v .attribute ≤ 3
       → (T (messages-by-priority (v .attribute)) → (1 ≤ v .highest) × (v .highest ≤ priority-limit)) → v .waiters ≡ [] → v .messages ≡ []
-      → WellFormedRows counter soonest (update same-key (mailbox b) v m)
+      → WellFormedRows (update same-key (mailbox b) v m)
   unfolding one-of
   new-mailbox v no-waiter no-message attribute highest waiters messages =
-      subst (λ (n : Program.Rows Row). WellFormedRows counter soonest (update same-key (mailbox b) v n)) (ap (λ l. with-message-rows (freed l m) m) no-message ∙ own-messages m)
+      subst (λ (n : Program.Rows Row). WellFormedRows (update same-key (mailbox b) v n)) (ap (λ l. with-message-rows (freed l m) m) no-message ∙ own-messages m)
       (replace-mailbox v no-waiter attribute highest waiters messages)

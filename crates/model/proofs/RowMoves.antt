@@ -59,11 +59,11 @@ waiting-kept : (m n : Program.Rows Row) → ((d : WaitQueue) → standing-in m d
     → StandsWhereNamed (standing-in m) (λ t. wait-queue (m (task t) .wait)) → StandsWhereNamed (standing-in n) (λ t. wait-queue (n (task t) .wait))
 waiting-kept m n lists waits = subst₂ StandsWhereNamed (fun-ext lists) (fun-ext waits)
 
-module _ {counter : ℕ} {soonest : ℕ → ℕ} {m : Program.Rows Row} (w : WellFormedRows counter soonest m) where
+module _ {m : Program.Rows Row} (w : WellFormedRows m) where
   -- A queue's row, with the wait queues as they were.
   pub put-queue : (q : ℕ) (v : QueueRow) → T (valid (queue q)) → QueueWellFormed v → v .senders ≡ m (queue q) .senders → v .receivers ≡ m (queue q) .receivers
       → (T (senders-by-priority (v .attribute)) → InOrder 1 priority-limit (map (λ j. m (task j) .priority) (v .senders)))
-      → WellFormedRows counter soonest (update same-key (queue q) v m)
+      → WellFormedRows (update same-key (queue q) v m)
   unfolding same-key update
   put-queue q v valid-queue fits same-senders same-receivers order = record {
     in-range = put-in-range (w .in-range) (queue q) v valid-queue;
@@ -89,12 +89,12 @@ module _ {counter : ℕ} {soonest : ℕ → ℕ} {m : Program.Rows Row} (w : Wel
       in-order (waiters-of b) = w .waiting-in-order (waiters-of b)
 
   -- A task's row, with no wait before and after. Its priority may change: it stands nowhere.
-  pub put-task : (t : ℕ) (v : TaskRow) → T (valid (task t)) → TaskWellFormed counter (soonest t) v → T (v .defined) → v .wait ≡ NoWait → m (task t) .wait ≡ NoWait
-      → WellFormedRows counter soonest (update same-key (task t) v m)
+  pub put-task : (t : ℕ) (v : TaskRow) → T (valid (task t)) → TaskWellFormed v → T (v .defined) → v .wait ≡ NoWait → m (task t) .wait ≡ NoWait
+      → WellFormedRows (update same-key (task t) v m)
   unfolding same-key update
   put-task t v valid-task fits defined after before = record {
     in-range = put-in-range (w .in-range) (task t) v valid-task;
-    tasks = λ j. task-cases t m (λ i x. TaskWellFormed counter (soonest i) x) v fits j (λ n. w .tasks j);
+    tasks = λ j. task-cases t m (λ i x. TaskWellFormed x) v fits j (λ n. w .tasks j);
     suspensions = λ j. task-cases t m (λ i x. T (m (suspension i)) → T (x .defined)) v (λ s. defined) j (λ n. w .suspensions j);
     queues = w .queues;
     mailboxes = w .mailboxes;
@@ -116,7 +116,7 @@ module _ {counter : ℕ} {soonest : ℕ → ℕ} {m : Program.Rows Row} (w : Wel
       in-order d p = rw (map-same (λ j. n (task j) .priority) (λ j. m (task j) .priority) (standing-in m d) (priority d)) (w .waiting-in-order d p)
 
   -- A suspension of a defined task, or none.
-  pub put-suspension : (t : ℕ) (v : Bool) → T (valid (suspension t)) → (T v → T (m (task t) .defined)) → WellFormedRows counter soonest (update same-key (suspension t) v m)
+  pub put-suspension : (t : ℕ) (v : Bool) → T (valid (suspension t)) → (T v → T (m (task t) .defined)) → WellFormedRows (update same-key (suspension t) v m)
   unfolding same-key update
   put-suspension t v valid-task defined = record {
     in-range = put-in-range (w .in-range) (suspension t) v valid-task;
@@ -140,7 +140,7 @@ module _ {counter : ℕ} {soonest : ℕ → ℕ} {m : Program.Rows Row} (w : Wel
       → StandsWhereNamed (λ j. update same-key (mailbox b) v m (mailbox j) .messages) (λ g. named-mailbox (messages g))
       → (T (messages-by-priority (v .attribute)) → InOrder 1 (v .highest) (map (λ g. messages g .priority) (v .messages)))
       → ((j g : ℕ) → j ≢ b → In g (m (mailbox j) .messages) → m (message g) .priority ≡ messages g .priority)
-      → WellFormedRows counter soonest (update same-key (mailbox b) v (with-message-rows messages m))
+      → WellFormedRows (update same-key (mailbox b) v (with-message-rows messages m))
   unfolding same-key update
   put-mailbox b v messages valid-mailbox fits same-waiters order in-range stands message-order same-priorities = record {
     in-range = put-in-range messages-in-range (mailbox b) v valid-mailbox;

@@ -9,20 +9,17 @@ use lib.Dec.{T, not-T, eqb, eqb→eq, eqb-refl}
 use mir.Facts.{yes-and}
 use Rattle.lists.specs.Lists.{one-of}
 use Rattle.rows.specs.Program as Program
-use Rattle.rows.specs.Program.{step-of}
 use Rattle.rows.specs.Runs.{end}
 use Rattle.model.specs.Sizes.{counter-span}
 use Rattle.model.specs.Rows.{task, TaskRow, Model}
-use Rattle.model.specs.Calls.{Call, calls, has-tmout, word-of}
-use Rattle.model.specs.Waits.{Never, At, Sending, Receiving, AtMailbox, able, wait-end, end-of}
-use Rattle.model.specs.Tasks.{tick}
+use Rattle.model.specs.Calls.{Call, has-tmout}
+use Rattle.model.specs.Waits.{Never, At, able, wait-end, end-of}
 use Rattle.model.specs.Step.{step}
 use Rattle.model.specs.WellFormed.{ticks-left, TickAhead, EndAhead, WellFormed}
-use Rattle.model.specs.Endings.{CodeAndWord, is-waiting, due-to, row-after, begun-end, begun-wait, ticks, GoesOn, SameWaitGoesOn, NoWaitOutlivesTimeOut, NoWaitOutlivesTmout, EndTickNotReached}
+use Rattle.model.specs.Endings.{CodeAndWord, is-waiting, due-to, row-after, ticks, GoesOn, SameWaitGoesOn, NoWaitOutlivesTimeOut, NoWaitOutlivesTmout, EndTickNotReached}
 use Rattle.model.specs.Answers.{is-wait}
-use Rattle.model.specs.declared.Answer.{Answer}
 use Rattle.model.proofs.Choices.{cond-yes}
-use Rattle.model.proofs.Step.{step-tick, step-call}
+use Rattle.model.proofs.KeptEnds.{counter-kept, counter-moved, begun-with}
 use Rattle.model.proofs.WellFormed.{kept-well-formed}
 use Rattle.model.proofs.Endings.{waits-end-as-due}
 
@@ -46,20 +43,12 @@ same-wait-goes-on m t w (c ∷ cs) g = same-wait-goes-on (step m c .state) t (ke
 
 -- ── The counter ──
 
-counter-kept : (m : Model) (c : Call) → T (not (eqb (c .number) 0)) → step m c .state .environment .counter ≡ m .environment .counter
-unfolding step-of
-counter-kept m c h = ap (λ (o : Program.Result Model Answer). o .state .environment .counter) (step-call m c h)
-
-counter-moved : (m : Model) (c : Call) → T (eqb (c .number) 0) → step m c .state .environment .counter ≡ (m .environment .counter + 1) % counter-span
-unfolding tick
-counter-moved m c h = ap (λ (o : Program.Result Model Answer). o .state .environment .counter) (step-tick m c h)
-
 -- A tick leaves one tick less.
-one-less : (counter end n : ℕ) → counter < counter-span → TickAhead counter 1 end → ticks-left counter end ≤ suc n → ticks-left ((counter + 1) % counter-span) end ≤ n
+one-less : (counter end n : ℕ) → counter < counter-span → TickAhead counter end → ticks-left counter end ≤ suc n → ticks-left ((counter + 1) % counter-span) end ≤ n
 one-less counter end n inside h k = let a = h .in-range in let b = h .not-sooner in omega arith
 
-end-ahead : (m : Model) (t end : ℕ) → WellFormed m → wait-end (m .rows (task t) .wait) ≡ At end → TickAhead (m .environment .counter) 1 end
-end-ahead m t end w e = subst (EndAhead (m .environment .counter) 1) e (w .rows .tasks t .end)
+end-ahead : (m : Model) (t end : ℕ) → WellFormed m → wait-end (m .rows (task t) .wait) ≡ At end → TickAhead (m .environment .counter) end
+end-ahead m t end w e = subst (EndAhead (m .environment .counter)) e (w .ends t)
 
 pub no-wait-outlives-time-out : NoWaitOutlivesTimeOut
 unfolding ticks GoesOn
@@ -72,15 +61,6 @@ no-wait-outlives-time-out m t end w e (c ∷ cs) k g = go (eqb (c .number) 0) (�
         → (ticks-left (step m c .state .environment .counter) end ≤ ticks cs → ⊥) → ⊥
     go true is-tick is-call k′ rest = rest (rw (counter-moved m c (is-tick tt)) (one-less (m .environment .counter) end (ticks cs) (w .counter-in-range) (end-ahead m t end w e) k′))
     go false is-tick is-call k′ rest = rest (rw (counter-kept m c (is-call tt)) k′)
-
--- The wait that begins ends as the call says.
-begun-with : (m : Model) (c : Call) → wait-end (begun-wait m c) ≡ begun-end m c
-begun-with m c = go (calls c (4 ∷ 6 ∷ [])) (calls c (8 ∷ 10 ∷ []))
-  where
-    go : (a b : Bool) → wait-end (cond a (Sending (c .object) (begun-end m c) (word-of c)) (cond b (Receiving (c .object) (begun-end m c)) (AtMailbox (c .object) (begun-end m c)))) ≡ begun-end m c
-    go true b = refl
-    go false true = refl
-    go false false = refl
 
 at-most : (counter n most : ℕ) → counter < counter-span → n ≤ most → ticks-left counter ((counter + n) % counter-span) ≤ most
 at-most counter n most inside k = omega arith

@@ -17,8 +17,8 @@ use Rattle.rows.proofs.Update.{update-same, update-other, update-cases}
 use Rattle.model.specs.Sizes.{priority-limit}
 use Rattle.model.specs.Rows.{Key, task, suspension, queue, mailbox, message, same-key, valid, Row, TaskRow, nothing, with-senders, with-receivers, with-waiters}
 use Rattle.model.specs.Codes.{Code}
-use Rattle.model.specs.Waits.{Wait, NoWait, wait-end, starting, ended, WaitQueue, senders-of, receivers-of, waiters-of, object-of, wait-queue}
-use Rattle.model.specs.WellFormed.{ObjectInRange, ends-a-wait, EndAhead, TaskWellFormed, QueueWellFormed, MailboxWellFormed, WellFormedRows}
+use Rattle.model.specs.Waits.{Wait, NoWait, starting, ended, WaitQueue, senders-of, receivers-of, waiters-of, object-of, wait-queue}
+use Rattle.model.specs.WellFormed.{ObjectInRange, ends-a-wait, TaskWellFormed, QueueWellFormed, MailboxWellFormed, WellFormedRows}
 use Rattle.model.specs.WaitQueues.{standing-in, by-priority, set-standing}
 use Rattle.model.proofs.Standing.{same-queue, changed, task-cases, put-in-range, with-standing, set-standing-is}
 
@@ -51,8 +51,8 @@ module _ (m : Program.Rows Row) (c : WaitQueue) (l : List ℕ) (t : ℕ) (row : 
   other-waits j n = ap (λ (x : TaskRow). wait-queue (x .wait)) (update-other same-key (task t) row (with-standing lists m) (task j) (λ e. n (cc)))
 
   -- The task keeps its priority, so that only the changed list can be out of order.
-  module _ {counter : ℕ} {soonest : ℕ → ℕ} (w : WellFormedRows counter soonest m) (valid-object : T (valid (object-of c))) (valid-task : T (valid (task t)))
-      (fits : ObjectWellFormed m c l) (task-fits : TaskWellFormed counter (soonest t) row)
+  module _ (w : WellFormedRows m) (valid-object : T (valid (object-of c))) (valid-task : T (valid (task t)))
+      (fits : ObjectWellFormed m c l) (task-fits : TaskWellFormed row)
       (same-defined : row .defined ≡ m (task t) .defined) (same-priority : row .priority ≡ m (task t) .priority)
       (order : T (by-priority m c) → InOrder 1 priority-limit (map (λ j. m (task j) .priority) l)) where
     as-before : (d : WaitQueue) → T (not (valid (object-of d))) → lists d ≡ standing-in m d
@@ -88,11 +88,11 @@ module _ (m : Program.Rows Row) (c : WaitQueue) (l : List ℕ) (t : ℕ) (row : 
         same : (j : ℕ) → m (task j) .priority ≡ moved (task j) .priority
         same j = task-cases t (with-standing lists m) (λ i x. m (task i) .priority ≡ x .priority) row (sym same-priority) j (λ n. refl)
 
-    wait-moved : StandsWhereNamed lists (λ j. wait-queue (moved (task j) .wait)) → WellFormedRows counter soonest moved
+    wait-moved : StandsWhereNamed lists (λ j. wait-queue (moved (task j) .wait)) → WellFormedRows moved
     unfolding same-key update
     wait-moved stands = record {
       in-range = put-in-range lists-in-range (task t) row valid-task;
-      tasks = λ j. task-cases t (with-standing lists m) (λ i x. TaskWellFormed counter (soonest i) x) row task-fits j (λ n. w .tasks j);
+      tasks = λ j. task-cases t (with-standing lists m) (λ i x. TaskWellFormed x) row task-fits j (λ n. w .tasks j);
       suspensions = λ j. task-cases t (with-standing lists m) (λ i x. T (m (suspension i)) → T (x .defined)) row (λ h. rw same-defined (w .suspensions t h)) j (λ n. w .suspensions j);
       queues = queues c objects;
       mailboxes = λ b. objects (waiters-of b);
@@ -123,7 +123,7 @@ module _ (f : ℕ → ℕ) {most : ℕ} (t : ℕ) (l : List ℕ) where
   in-order-with n e low high o = rw (map-insert f n t l, e) (in-order-insert (f t) low high o)
 
 -- What is defined is valid.
-module _ {counter : ℕ} {soonest : ℕ → ℕ} {m : Program.Rows Row} (w : WellFormedRows counter soonest m) where
+module _ {m : Program.Rows Row} (w : WellFormedRows m) where
   pub is-valid : (k : Key) → (m k ≡ nothing k → ⊥) → T (valid k)
   is-valid k f = go (valid k) (w .in-range k)
     where
@@ -168,23 +168,23 @@ module _ {counter : ℕ} {soonest : ℕ → ℕ} {m : Program.Rows Row} (w : Wel
   module _ (t : ℕ) (c : WaitQueue) where
     -- The wait of t, which names c, ends.
     pub leave : (code : Code) (word : ℕ) → T (ends-a-wait code) → wait-queue (m (task t) .wait) ≡ some c
-        → WellFormedRows counter soonest (update same-key (task t) (ended code word (m (task t))) (set-standing c (without t (standing-in m c)) m))
+        → WellFormedRows (update same-key (task t) (ended code word (m (task t))) (set-standing c (without t (standing-in m c)) m))
     leave code word ends e =
         let l = without t (standing-in m c) in
         let row = ended code word (m (task t)) in
         rw (set-standing-is c l m)
         (wait-moved m c l t row w (rw (named-object (m (task t) .wait) c e) at (w .tasks t .object-in-range)) (is-valid (task t) (λ q. Option·none-ne-some c (rw q at e)))
         (fewer c l (λ q. ap (without t) q ∙ without-none t))
-        (record { undefined = λ d. refl; priority-in-range = w .tasks t .priority-in-range; object-in-range = tt; code = ends; end = tt }) refl refl
+        (record { undefined = λ d. refl; priority-in-range = w .tasks t .priority-in-range; object-in-range = tt; code = ends }) refl refl
         (λ b. in-order-without (λ j. m (task j) .priority) t (standing-in m c) (w .waiting-in-order c b))
         (stands-leave same-queue (w .waiting) c (update-other same-queue c l (standing-in m)) t (other-waits m c l t row) e (own-wait m c l t row) (update-same same-queue c l (standing-in m))))
 
     -- t, which is defined and has no wait, starts a wait that names c, behind the first n tasks there.
     pub join : (n : ℕ) (wait : Wait) → T (m (task t) .defined) → m (task t) .wait ≡ NoWait → T (valid (object-of c)) → ObjectWellFormed m c (insert-at n t (standing-in m c))
-        → wait-queue wait ≡ some c → EndAhead counter (soonest t) (wait-end wait)
+        → wait-queue wait ≡ some c
         → (T (by-priority m c) → n ≡ passed (m (task t) .priority) (map (λ j. m (task j) .priority) (standing-in m c)))
-        → WellFormedRows counter soonest (update same-key (task t) (starting wait (m (task t))) (set-standing c (insert-at n t (standing-in m c)) m))
-    join n wait defined able object fits e ahead place =
+        → WellFormedRows (update same-key (task t) (starting wait (m (task t))) (set-standing c (insert-at n t (standing-in m c)) m))
+    join n wait defined able object fits e place =
         let l = insert-at n t (standing-in m c) in
         let row = starting wait (m (task t)) in
         let priority = w .tasks t .priority-in-range defined in
@@ -195,13 +195,12 @@ module _ {counter : ℕ} {soonest : ℕ → ℕ} {m : Program.Rows Row} (w : Wel
           priority-in-range = w .tasks t .priority-in-range;
           object-in-range = rw (named-object wait c e) object;
           code = tt;
-          end = ahead;
         }) refl refl
         (λ b. in-order-with (λ j. m (task j) .priority) t (standing-in m c) n (place b) (priority .0) (priority .1) (w .waiting-in-order c b))
         (stands-join same-queue (w .waiting) c (update-other same-queue c l (standing-in m)) t (other-waits m c l t row) (ap wait-queue able) (own-wait m c l t row ∙ e) n (update-same same-queue c l (standing-in m))))
 
   -- The wait of the head ends.
   pub leave-head : (c : WaitQueue) (code : Code) (word : ℕ) → T (ends-a-wait code) → T (not (empty (standing-in m c)))
-      → WellFormedRows counter soonest (update same-key (task (headD (standing-in m c) 0)) (ended code word (m (task (headD (standing-in m c) 0)))) (set-standing c (tail (standing-in m c)) m))
+      → WellFormedRows (update same-key (task (headD (standing-in m c) 0)) (ended code word (m (task (headD (standing-in m c) 0)))) (set-standing c (tail (standing-in m c)) m))
   leave-head c code word ends some-task = rw (without-head (standing-in m c) some-task) at
       (leave (headD (standing-in m c) 0) c code word ends (w .waiting .no-other (headD (standing-in m c) 0) c (in-head (standing-in m c) some-task)))

@@ -3,7 +3,7 @@ use mathlib.Core.Path.{_≡_, refl, ap, subst}
 use mathlib.Core.Bool.{Bool, true, false, not, cond}
 use mathlib.Core.List.{[], map}
 use mathlib.Core.Option.{some, none, Option·map, Option·none-ne-some, Option·some-injective}
-use Prim.Native.Nat.{ℕ}
+use Prim.Native.Nat.{ℕ, _<_}
 use native.Mathlib.Omega.{arith}
 use lib.Dec.{T, eqb}
 use Rattle.lists.specs.Lists.{empty, one-of, InOrder, no-key}
@@ -11,10 +11,11 @@ use Rattle.lists.proofs.Each.{each-of-all}
 use Rattle.lists.proofs.Stands.{each-member, stands-nowhere}
 use Rattle.rows.specs.Program.{run, step-of}
 use Rattle.model.specs.Rows.{task, message, same-key, MessageRow, no-task, nothing as no-rows, Model}
-use Rattle.model.specs.Sizes.{priority-limit}
+use Rattle.model.specs.Sizes.{priority-limit, counter-span}
 use Rattle.model.specs.Calls.{Call, view-of}
 use Rattle.model.specs.Waits.{Wait, WaitQueue, senders-of, receivers-of, waiters-of, object-of, wait-queue}
 use Rattle.model.specs.Errors.{refused}
+use Rattle.model.specs.Tasks.{tick}
 use Rattle.model.specs.Step.{step, program}
 use Rattle.model.specs.Isolation.{WaitsAt, QueuedAt, WellFormedLinked}
 use Rattle.model.specs.WellFormed.{named-mailbox, WellFormedRows, WellFormed, KeptWellFormed, EmptyWellFormed}
@@ -23,27 +24,31 @@ use Rattle.model.proofs.Step.{step-tick, step-call, run-refused, run-ac
 use Rattle.model.proofs.Accepted.{passes, accepted}
 use Rattle.model.proofs.KeptCalls.{Valid, kept-accepted}
 use Rattle.model.proofs.KeptTick.{kept-tick}
+use Rattle.model.proofs.KeptEnds.{kept-ends}
 
 -- ── Kept ──
 
 -- A call's program leaves well-formed rows.
-kept-program : (m : Model) (c : Call) → WellFormed m → WellFormedRows (m .environment .counter) (λ t. 1) (run same-key (program (m .environment) c) (m .rows) .state)
+kept-program : (m : Model) (c : Call) → WellFormed m → WellFormedRows (run same-key (program (m .environment) c) (m .rows) .state)
 kept-program m c w = go (refused (view-of m c) c) (λ r. r) (λ r. r)
   where
     go : (b : Bool) → (T b → T (refused (view-of m c) c)) → (T (not b) → T (not (refused (view-of m c) c)))
-        → WellFormedRows (m .environment .counter) (λ t. 1) (run same-key (program (m .environment) c) (m .rows) .state)
+        → WellFormedRows (run same-key (program (m .environment) c) (m .rows) .state)
     go true yes-case no-case = rw (run-refused m c (yes-case tt)) (w .rows)
     go false yes-case no-case = let ok = no-case tt in
         rw (run-accepted m c ok)
-        (kept-accepted m c (w .counter-in-range) (w .rows) (accepted Valid (view-of m c) c (each-of-all (λ k t. t) _) ok) (passes (view-of m c) c ok) .holds)
+        (kept-accepted m c (w .rows) (accepted Valid (view-of m c) c (each-of-all (λ k t. t) _) ok) (passes (view-of m c) c ok) .holds)
+
+kept-rows : (m : Model) (c : Call) → WellFormed m → (b : Bool) → (T b → T (eqb (c .number) 0)) → (T (not b) → T (not (eqb (c .number) 0)))
+    → (step m c .state .environment .counter < counter-span) × WellFormedRows (step m c .state .rows)
+unfolding step-of tick
+kept-rows m c w true is-tick is-call = rw (step-tick m c (is-tick tt)) (omega arith, kept-tick m (w .rows))
+kept-rows m c w false is-tick is-call = rw (step-call m c (is-call tt)) (w .counter-in-range, kept-program m c w)
 
 pub kept-well-formed : KeptWellFormed
-unfolding step-of
-kept-well-formed m c w = go (eqb (c .number) 0) (λ t. t) (λ t. t)
-  where
-    go : (b : Bool) → (T b → T (eqb (c .number) 0)) → (T (not b) → T (not (eqb (c .number) 0))) → WellFormed (step m c .state)
-    go true tick-case call-case = rw (step-tick m c (tick-case tt)) (kept-tick m w)
-    go false tick-case call-case = rw (step-call m c (call-case tt)) (record { counter-in-range = w .counter-in-range; rows = kept-program m c w })
+kept-well-formed m c w =
+    let k = kept-rows m c w (eqb (c .number) 0) (λ t. t) (λ t. t) in
+    record { counter-in-range = k .0; rows = k .1; ends = λ t. kept-ends m c t w }
 
 -- ── The empty model ──
 
@@ -53,7 +58,7 @@ empty-well-formed counter inside = record {
   counter-in-range = inside;
   rows = record {
     in-range = λ k n. refl;
-    tasks = λ t. record { undefined = λ n. refl; priority-in-range = λ d. absurd d; object-in-range = tt; code = tt; end = tt };
+    tasks = λ t. record { undefined = λ n. refl; priority-in-range = λ d. absurd d; object-in-range = tt; code = tt };
     suspensions = λ t s. absurd s;
     queues = λ q. record {
       undefined = λ n. (refl, refl, refl);
@@ -69,6 +74,7 @@ empty-well-formed counter inside = record {
     queued = stands-nowhere (λ b. refl) (λ g. refl);
     queued-in-order = λ b p. no-key;
   };
+  ends = λ t. tt;
 }
   where
     no-task-waits : (d : WaitQueue) → standing-in no-rows d ≡ []

@@ -36,17 +36,17 @@ ends-a-wait code = code-in code (E-OK ∷ E-RLWAI ∷ E-TMOUT ∷ E-DLT ∷ [])
 abbrev pub ticks-left : ℕ → ℕ → ℕ
 ticks-left counter tick = (tick + (counter-span - counter)) % counter-span
 
--- The tick is a number of the counter's, and lies so many ticks ahead: `soonest` of them at least.
-pub record TickAhead (counter soonest tick : ℕ) : Type 0 where
+-- The tick is a number of the counter's, and lies ahead, not too far: the counter hasn't come to it.
+pub record TickAhead (counter tick : ℕ) : Type 0 where
   pub in-range : tick < counter-span
-  pub not-sooner : soonest ≤ ticks-left counter tick
+  pub not-sooner : 1 ≤ ticks-left counter tick
   pub not-later : ticks-left counter tick ≤ end-limit
 
-abbrev pub EndAhead : ℕ → ℕ → End → Type 0
-EndAhead counter soonest Never = Unit
-EndAhead counter soonest (At tick) = TickAhead counter soonest tick
+abbrev pub EndAhead : ℕ → End → Type 0
+EndAhead counter Never = Unit
+EndAhead counter (At tick) = TickAhead counter tick
 
-pub record TaskWellFormed (counter soonest : ℕ) (x : TaskRow) : Type 0 where
+pub record TaskWellFormed (x : TaskRow) : Type 0 where
   -- Whatever isn't defined doesn't wait.
   pub undefined : T (not (x .defined)) → x .wait ≡ NoWait
   -- Priority and object are in range.
@@ -54,8 +54,6 @@ pub record TaskWellFormed (counter soonest : ℕ) (x : TaskRow) : Type 0 where
   pub object-in-range : ObjectInRange (x .wait)
   -- The stored code is one that a wait can end with.
   pub code : T (ends-a-wait (x .code))
-  -- The end tick, where there is one, is ahead and not too far.
-  pub end : EndAhead counter soonest (wait-end (x .wait))
 
 -- ── A data queue by itself ──
 
@@ -85,8 +83,7 @@ pub record MailboxWellFormed (x : MailboxRow) : Type 0 where
 
 -- ── All rows ──
 
--- `soonest` says for each task how many ticks its end tick is away at least. It is 1; within a tick it is 0 for the tasks whose turn is still to come.
-pub record WellFormedRows (counter : ℕ) (soonest : ℕ → ℕ) (m : Program.Rows Row) : Type 0 where
+pub record WellFormedRows (m : Program.Rows Row) : Type 0 where
   -- Whoever waits stands in the wait queue that its wait names, once and in no other, and nobody else stands in one.
   pub waiting : StandsWhereNamed (standing-in m) (λ t. wait-queue (m (task t) .wait))
   -- The same of messages and the mailboxes that they are queued in.
@@ -98,7 +95,7 @@ pub record WellFormedRows (counter : ℕ) (soonest : ℕ → ℕ) (m : Program.R
   -- Each object and each task by itself.
   pub queues : (q : ℕ) → QueueWellFormed (m (queue q))
   pub mailboxes : (b : ℕ) → MailboxWellFormed (m (mailbox b))
-  pub tasks : (t : ℕ) → TaskWellFormed counter (soonest t) (m (task t))
+  pub tasks : (t : ℕ) → TaskWellFormed (m (task t))
   -- Only a task that is defined is suspended.
   pub suspensions : (t : ℕ) → T (m (suspension t)) → T (m (task t) .defined)
   -- Beyond the limits of its kind nothing has a number.
@@ -106,7 +103,9 @@ pub record WellFormedRows (counter : ℕ) (soonest : ℕ → ℕ) (m : Program.R
 
 pub record WellFormed (m : Model) : Type 0 where
   pub counter-in-range : m .environment .counter < counter-span
-  pub rows : WellFormedRows (m .environment .counter) (λ t. 1) (m .rows)
+  pub rows : WellFormedRows (m .rows)
+  -- An end tick, where there is one, is ahead.
+  pub ends : (t : ℕ) → EndAhead (m .environment .counter) (wait-end (m .rows (task t) .wait))
 
 -- ── Statements ──
 
