@@ -70,7 +70,7 @@ unfolding read-task
 kept-code x true d t = t
 kept-code x false d t = absurd d
 
-pub task-numbers : (x : TaskCells) (priority : ℕ) {counter soonest : ℕ} → (T (read-task x .suspended) → T (read-task x .defined)) → TaskWellFormed counter soonest (task-row (read-task x) priority) → TaskNumbers x
+pub task-numbers : (x : TaskCells) (priority : ℕ) → (T (read-task x .suspended) → T (read-task x .defined)) → TaskWellFormed (task-row (read-task x) priority) → TaskNumbers x
 unfolding read-task
 task-numbers x priority suspension w = record {
   flags = not-beyond (λ h. subst T (beyond-undefined x h) (suspension (subst T (sym (beyond-suspended x h)) tt)));

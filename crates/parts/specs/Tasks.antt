@@ -26,7 +26,9 @@ pub record TaskSound (counter priority standing : ℕ) (x : Task) : Type 0 where
   pub stands : wait-chain (x .wait) ≡ standing
   -- Only a task that is defined is suspended.
   pub suspension : T (x .suspended) → T (x .defined)
-  pub row : TaskWellFormed counter 1 (task-row x priority)
+  pub row : TaskWellFormed (task-row x priority)
+  -- The end tick, where there is one, is ahead.
+  pub end : EndAhead counter (wait-end (x .wait))
 
 -- What the parts of the test decide.
 pub record NamesChain (standing before number : ℕ) : Type 0 where
@@ -37,4 +39,4 @@ pub record NamesChain (standing before number : ℕ) : Type 0 where
 pub record WaitSound (counter standing : ℕ) (wait : Wait) : Type 0 where
   pub stands : wait-chain wait ≡ standing
   pub object-in-range : ObjectInRange wait
-  pub end : EndAhead counter 1 (wait-end wait)
+  pub end : EndAhead counter (wait-end wait)

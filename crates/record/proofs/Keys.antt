@@ -24,13 +24,13 @@ use Rattle.record.proofs.Rows.{passes-or-not, row-is}
 use Rattle.record.proofs.Standing.{standing-is, messages-are, in-chain, in-mailbox}
 
 -- Whoever waits is defined.
-pub waits-defined : (s : State) (t : ℕ) (k : WaitQueue) → T (valid (task t)) → TaskWellFormed (s .counter) 1 (abs s .rows (task t)) → wait-queue (abs s .rows (task t) .wait) ≡ some k → T (task-at s t .defined)
+pub waits-defined : (s : State) (t : ℕ) (k : WaitQueue) → T (valid (task t)) → TaskWellFormed (abs s .rows (task t)) → wait-queue (abs s .rows (task t) .wait) ≡ some k → T (task-at s t .defined)
 waits-defined s t k v r w =
-    let row : TaskWellFormed (s .counter) 1 (task-row (task-at s t) (getD (s .waiting .key) t 0)) = rw (row-is s (task t) v) at r in
+    let row : TaskWellFormed (task-row (task-at s t) (getD (s .waiting .key) t 0)) = rw (row-is s (task t) v) at r in
     let names : wait-queue (task-at s t .wait) ≡ some k = sym (ap (λ (x : TaskRow). wait-queue (x .wait)) (row-is s (task t) v)) ∙ w in
     passes-or-not (task-at s t .defined) (λ d. d) (λ n. absurd (Option·none-ne-some k (sym (ap wait-queue (row .undefined n)) ∙ names)))
 
-module _ (s : State) (H : Sound task-limit task-chains (s .waiting .link)) (tasks : (t : ℕ) → TaskWellFormed (s .counter) 1 (abs s .rows (task t)))
+module _ (s : State) (H : Sound task-limit task-chains (s .waiting .link)) (tasks : (t : ℕ) → TaskWellFormed (abs s .rows (task t)))
     (waiting : StandsWhereNamed (standing-in (abs s .rows)) (λ t. wait-queue (abs s .rows (task t) .wait))) where
   pub priorities-are : (k : WaitQueue) → T (valid (object-of k)) → map (λ t. abs s .rows (task t) .priority) (standing-in (abs s .rows) k) ≡ keys-of (s .waiting .key) (tasks-in (s .waiting .link) k)
   unfolding keys-of

@@ -10,8 +10,8 @@ use Rattle.chain.specs.Table.{chain-of, keys-of}
 use Rattle.chain.specs.Table as chain
 use Rattle.model.specs.Sizes.{task-limit, message-limit, priority-limit, counter-span}
 use Rattle.model.specs.Rows.{task, suspension, queue, mailbox, message, valid, TaskRow, QueueRow, MailboxRow, messages-by-priority, waiters-by-priority, senders-by-priority, nothing}
-use Rattle.model.specs.WellFormed.{TaskWellFormed, QueueWellFormed, MailboxWellFormed, WellFormedRows}
-use Rattle.model.specs.Waits.{WaitQueue, object-of, senders-of, receivers-of, waiters-of, wait-queue}
+use Rattle.model.specs.WellFormed.{EndAhead, TaskWellFormed, QueueWellFormed, MailboxWellFormed, WellFormedRows}
+use Rattle.model.specs.Waits.{wait-end, WaitQueue, object-of, senders-of, receivers-of, waiters-of, wait-queue}
 use Rattle.model.specs.WaitQueues.{standing-in, by-priority}
 use Rattle.model.proofs.Choices.{cond-yes}
 use Rattle.model.proofs.WellFormed.{empty-well-formed}
@@ -53,14 +53,14 @@ highest-is s b v o = ap (λ (x : MailboxRow). x .highest) (row-is s (mailbox b) 
 
 module _ (s : State) (p : Parts s) where
   -- What is undefined is well-formed, as in the empty state.
-  undefined : WellFormedRows (s .counter) (λ t. 1) nothing
+  undefined : WellFormedRows nothing
   undefined = empty-well-formed (s .counter) (p .counter) .rows
 
-  rows-tasks : (t : ℕ) → TaskWellFormed (s .counter) 1 (abs s .rows (task t))
-  rows-tasks t = row-cases s (task t) (λ x. TaskWellFormed (s .counter) 1 x) (λ v. p .tasks t v .row) (λ n. undefined .tasks t)
+  rows-tasks : (t : ℕ) → TaskWellFormed (abs s .rows (task t))
+  rows-tasks t = row-cases s (task t) (λ x. TaskWellFormed x) (λ v. p .tasks t v .row) (λ n. undefined .tasks t)
 
   waits : (t : ℕ) → T (valid (task t)) → WaitSound (s .counter) (chain-of t (task-lists s)) (task-at s t .wait)
-  waits t v = record { stands = p .tasks t v .stands; object-in-range = p .tasks t v .row .object-in-range; end = p .tasks t v .row .end }
+  waits t v = record { stands = p .tasks t v .stands; object-in-range = p .tasks t v .row .object-in-range; end = p .tasks t v .end }
 
   stand : StandsWhereNamed (standing-in (abs s .rows)) (λ t. wait-queue (abs s .rows (task t) .wait))
   stand = waiting-from s (p .waiting) waits
@@ -108,21 +108,27 @@ module _ (s : State) (p : Parts s) where
         queued = queued-from s (p .messages);
         queued-in-order = queued-ordered;
       };
+      ends = λ t. row-cases s (task t) (λ x. EndAhead (s .counter) (wait-end (x .wait))) (λ v. p .tasks t v .end) (λ n. tt);
     };
   }
 
 -- ── To the parts ──
 
 module _ (s : State) (S : Sound s) where
-  well-formed-rows : WellFormedRows (s .counter) (λ t. 1) (abs s .rows)
+  well-formed-rows : WellFormedRows (abs s .rows)
   unfolding abs
   well-formed-rows = S .well-formed .rows
+
+  ends-ahead : (t : ℕ) → EndAhead (s .counter) (wait-end (abs s .rows (task t) .wait))
+  unfolding abs
+  ends-ahead = S .well-formed .ends
 
   sound-task : (t : ℕ) → T (valid (task t)) → TaskAt s t
   sound-task t v = record {
     stands = stands-from s (S .readable .waiting) (well-formed-rows .waiting) t v;
     suspension = λ h. subst (λ (x : TaskRow). T (x .defined)) (row-is s (task t) v) (well-formed-rows .suspensions t (subst T (sym (row-is s (suspension t) v)) h));
-    row = subst (λ x. TaskWellFormed (s .counter) 1 x) (row-is s (task t) v) (well-formed-rows .tasks t);
+    row = subst (λ x. TaskWellFormed x) (row-is s (task t) v) (well-formed-rows .tasks t);
+    end = subst (λ (x : TaskRow). EndAhead (s .counter) (wait-end (x .wait))) (row-is s (task t) v) (ends-ahead t);
   }
 
   keys-ordered : (k : WaitQueue) → T (valid (object-of k)) → T (by-priority (abs s .rows) k) → InOrder 1 priority-limit (keys-of (s .waiting .key) (tasks-in (s .waiting .link) k))

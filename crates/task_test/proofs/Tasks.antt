@@ -20,16 +20,16 @@ use Rattle.cells.specs.Tasks.{nowhere}
 
 -- ── End ticks ──
 
-pub never-ends : (counter : ℕ) {end : End} → end ≡ Never → Whether (EndAhead counter 1 end) true
-never-ends counter e = subst (λ (v : End). Whether (EndAhead counter 1 v) true) (sym e) (holds tt)
+pub never-ends : (counter : ℕ) {end : End} → end ≡ Never → Whether (EndAhead counter end) true
+never-ends counter e = subst (λ (v : End). Whether (EndAhead counter v) true) (sym e) (holds tt)
 
 -- The wrapping difference is the number of ticks left.
 pub ends-at : {counter tick left : ℕ} {end : End} {b : Bool} → end ≡ At tick → counter < counter-span → left < counter-span → (left + counter) % 2 ^ 32 ≡ tick
-    → Whether ((1 ≤ left) × (left ≤ tmout-limit)) b → Whether (EndAhead counter 1 end) b
+    → Whether ((1 ≤ left) × (left ≤ tmout-limit)) b → Whether (EndAhead counter end) b
 ends-at {counter} {tick} {left} {b = b} e f g h i =
     let left-is : ticks-left counter tick ≡ left = omega arith in
     let within-span : tick < counter-span = omega arith in
-    subst (λ (v : End). Whether (EndAhead counter 1 v) b) (sym e)
+    subst (λ (v : End). Whether (EndAhead counter v) b) (sym e)
     (is-map
     (λ p. record { in-range = within-span; not-sooner = rw left-is (p .0); not-later = rw left-is (p .1) })
     (λ a. (rw left-is at (a .not-sooner), rw left-is at (a .not-later)))
@@ -39,7 +39,7 @@ ends-at {counter} {tick} {left} {b = b} e f g h i =
 
 -- A wait at an object: the object's number is in range, and the chain is the one that has this number behind `before` others.
 pub waits-at : {counter standing : ℕ} {w : Wait} {b : Bool} (v : Wait) (before number : ℕ) → w ≡ v → wait-chain v ≡ before + number → ObjectInRange v ≡ T (within 1 16 number)
-    → Whether (NamesChain standing before number × EndAhead counter 1 (wait-end v)) b → Whether (WaitSound counter standing w) b
+    → Whether (NamesChain standing before number × EndAhead counter (wait-end v)) b → Whether (WaitSound counter standing w) b
 waits-at {counter} {standing} {w} {b} v before number e chain-is range i =
     let number-test = is-and (is-leb 1 number) (is-leb number 16) in
     subst (λ (u : Wait). Whether (WaitSound counter standing u) b) (sym e)
@@ -73,12 +73,12 @@ module _ {counter priority standing : ℕ} {b : Bool} (x : Task) where
           priority-in-range = λ t. rw d (p .0 .0);
           object-in-range = p .1 .object-in-range;
           code = rw d (p .0 .1);
-          end = p .1 .end;
         };
+        end = p .1 .end;
       })
       (λ s. (
         (rw d at (s .row .priority-in-range (rw d tt)), rw d at (s .row .code)),
-        record { stands = s .stands; object-in-range = s .row .object-in-range; end = s .row .end },
+        record { stands = s .stands; object-in-range = s .row .object-in-range; end = s .end },
       ))
       i
 
@@ -93,8 +93,8 @@ module _ {counter priority standing : ℕ} {b : Bool} (x : Task) where
           priority-in-range = λ t. absurd (rw d at t);
           object-in-range = rw (p .1) tt;
           code = rw d tt;
-          end = rw (p .1) tt;
         };
+        end = rw (p .1) tt;
       })
       (λ s. let w = s .row .undefined (rw d tt) in (((λ t. rw d at (s .suspension t)), sym (s .stands) ∙ ap wait-chain w), w))
       i

@@ -10,7 +10,7 @@ use parts::WAITERS;
 
 // Whether an end is ahead, and not too far.
 fn end_sound(timed: u8, tick: u32, counter: u32) -> bool
-    ensures { λ r. ⌜ Whether (EndAhead counter 1 (read-end timed tick)) r ⌝ }
+    ensures { λ r. ⌜ Whether (EndAhead counter (read-end timed tick)) r ⌝ }
 {
     if timed == 0 {
         return true;

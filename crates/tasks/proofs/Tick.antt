@@ -1,5 +1,5 @@
 -- The tick, task by task: what is left of the program `expire` runs to what the whole of it runs to.
-use mathlib.Core.Path.{_≡_, refl, sym, ap, _∙_, subst, fun-ext}
+use mathlib.Core.Path.{_≡_, refl, sym, ap, _∙_, fun-ext}
 use mathlib.Core.Bool.{true, false, not}
 use mathlib.Core.List.{List, _∷_}
 use Prim.Native.Nat.{ℕ, suc, _+_, _-_, _%_, _<_, _≤_}
@@ -16,19 +16,18 @@ use Rattle.model.specs.Codes.{finished}
 use Rattle.model.specs.Waits.{able, wait-end, due}
 use Rattle.model.specs.WaitQueues.{end-wait}
 use Rattle.model.specs.Tasks.{expire, tick}
-use Rattle.model.specs.WellFormed.{EndAhead, WellFormedRows}
+use Rattle.model.specs.WellFormed.{WellFormedRows}
 use Rattle.model.specs.declared.Answer.{Answer}
 use Rattle.model.specs.declared.Code.the-variants.{Ok as E-OK, Tmout as E-TMOUT}
-use Rattle.model.specs.declared.Wait.{Wait}
 use Rattle.model.proofs.Tests.{to-within}
-use Rattle.model.proofs.KeptTick.{soonest-from, turns-begin, turn-over, from-turn, not-due, due-waits}
+use Rattle.model.proofs.KeptTick.{due-waits}
 use Rattle.record.specs.declared.State.{State}
 use Rattle.record.specs.Meaning.{task-at, abs}
 use Rattle.record.specs.Sound.{Readable, Sound}
 use Rattle.record.proofs.Rows.{row-is}
 use Rattle.waits.specs.Waiting.{Endable, Ended}
-use Rattle.waits.proofs.Laws.{rows-of, counter-inside}
-use Rattle.waits.proofs.Ends.{endable, end-becomes, end-runs, end-kept, end-able}
+use Rattle.waits.proofs.Laws.{rows-of}
+use Rattle.waits.proofs.Ends.{endable, end-becomes, end-runs, end-kept}
 use Rattle.tasks.specs.Tick.{Ticked}
 
 -- ── The counter ──
@@ -67,7 +66,7 @@ pub record Ticking (counter : ℕ) (s₀ s : State) (n t : ℕ) : Type 0 where
   pub low : 1 ≤ t
   pub high : t ≤ suc task-limit
   pub few : n < t
-  pub rows : WellFormedRows counter (soonest-from t) (abs s .rows)
+  pub rows : WellFormedRows (abs s .rows)
   pub runs : run same-key (expire counter (ascending t (suc task-limit - t)) n) (abs s .rows) ≡ run same-key (expire counter (ascending 1 task-limit) 0) (abs s₀ .rows)
 
 pub ticking-begins : {s : State} → Sound s → {counter : ℕ} → counter ≡ (s .counter + 1) % counter-span → Ticking counter (with-counter counter s) (with-counter counter s) 0 1
@@ -78,7 +77,7 @@ ticking-begins {s} S {counter} e = record {
   low = omega arith;
   high = omega arith;
   few = omega arith;
-  rows = rw (counter-unseen s counter, e) (turns-begin (counter-inside S) (rows-of S));
+  rows = rw (counter-unseen s counter) (rows-of S);
   runs = refl;
 }
 
@@ -112,8 +111,7 @@ module _ {counter : ℕ} {s₀ s : State} {n t : ℕ} (i : Ticking counter s₀ 
         low = omega arith;
         high = omega arith;
         few = let f = i .few in omega arith;
-        rows = rw (add-one t) (turn-over counter (i .inside) t (i .rows)
-            (not-due counter (wait-end (abs s .rows (task t) .wait)) (i .inside) (from-turn counter (i .inside) t t (wait-end (abs s .rows (task t) .wait)) (omega arith) (i .rows .tasks t .end)) no));
+        rows = i .rows;
         runs = sym (run-no same-key _ _ _ _ no) ∙ (sym turn-runs ∙ i .runs);
       }
 
@@ -136,7 +134,7 @@ module _ {counter : ℕ} {s₀ s : State} {n t : ℕ} (i : Ticking counter s₀ 
           low = omega arith;
           high = omega arith;
           few = let f = i .few in omega arith;
-          rows = rw (add-one t) (turn-over counter (i .inside) t (end-kept waits e tt (i .rows)) (subst (λ (x : Wait). EndAhead counter 1 (wait-end x)) (sym (end-able waits e)) tt));
+          rows = end-kept waits e tt (i .rows);
           runs = rw (add-one n) (sym (end-runs waits e _) ∙ (sym (run-yes same-key _ _ _ _ yes-due) ∙ (sym turn-runs ∙ i .runs)));
         }
 

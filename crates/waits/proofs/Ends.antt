@@ -16,16 +16,16 @@ use Rattle.rows.proofs.Update.{update-same, update-other}
 use Rattle.chain.specs.Changes.{HasChain, Changed, Removed}
 use Rattle.chain.proofs.Laws.{list-range}
 use Rattle.model.specs.Sizes.{task-limit}
-use Rattle.model.specs.Rows.{task, mailbox, same-key, valid, Row, TaskRow, Effect}
+use Rattle.model.specs.Rows.{task, mailbox, same-key, valid, TaskRow, Effect}
 use Rattle.model.specs.Codes.{waits}
-use Rattle.model.specs.Waits.{able, ended, WaitQueue, object-of, wait-queue}
+use Rattle.model.specs.Waits.{able, wait-end, ended, WaitQueue, object-of, wait-queue}
 use Rattle.model.specs.WaitQueues.{end-wait, end-waits, standing-in}
-use Rattle.model.specs.WellFormed.{ends-a-wait, TaskWellFormed, WellFormedRows}
+use Rattle.model.specs.WellFormed.{ends-a-wait, EndAhead, TaskWellFormed, WellFormedRows}
 use Rattle.model.specs.declared.Code.{Code}
 use Rattle.model.specs.declared.Wait.{Wait}
 use Rattle.model.specs.declared.Wait.the-variants.{NoWait, Sending, Receiving, AtMailbox}
 use Rattle.model.proofs.Tests.{from-within, to-within}
-use Rattle.model.proofs.Standing.{same-queue}
+use Rattle.model.proofs.Standing.{same-queue, task-cases, set-standing-is}
 use Rattle.model.proofs.WaitMoves.{leave}
 use Rattle.model.proofs.After.{after-end-wait, leads, leads-here}
 use Rattle.model.proofs.EndWaits.{standing-left, messages-left}
@@ -44,7 +44,7 @@ use Rattle.record.proofs.Rows.{passes-or-not, row-is}
 use Rattle.record.proofs.Chains.{chain-range, ChainOwner, chain-owner, named-chain}
 use Rattle.record.proofs.Standing.{stands-from}
 use Rattle.record.proofs.Laws.{with-task, with-waiting}
-use Rattle.waits.proofs.Laws.{rows-of, becomes-sound, has-chain, standing-chain, some-head, chain-of-queue, nobody-waits, ended-cell, ended-row, wait-changed}
+use Rattle.waits.proofs.Laws.{rows-of, end-ahead, becomes-sound, has-chain, standing-chain, some-head, chain-of-queue, nobody-waits, ended-cell, ended-row, wait-changed}
 
 -- ── A wait ends ──
 
@@ -82,9 +82,9 @@ module _ {s : State} {t : ℕ} (a : Endable s t) where
             (ap (λ (x : Task). task-row x (getD (s .waiting .key) t 0)) e ∙ (ended-row (task-at s t) _ (a .defined) code 0 ∙ ap (ended code 0) (sym (row-is s (task t) (a .valid-task))))))
 
 -- In well-formed rows a task that waits stands where its wait says, so its wait can be ended.
-pub endable : {s : State} {counter : ℕ} {soonest : ℕ → ℕ} → Readable s → WellFormedRows counter soonest (abs s .rows) → (t : ℕ) → T (valid (task t)) → T (not (able (abs s .rows (task t) .wait))) → Endable s t
-endable {s} {counter} {soonest} R w t v waits =
-    let row : TaskWellFormed counter (soonest t) (task-row (task-at s t) (getD (s .waiting .key) t 0)) = rw (row-is s (task t) v) at (w .tasks t) in
+pub endable : {s : State} → Readable s → WellFormedRows (abs s .rows) → (t : ℕ) → T (valid (task t)) → T (not (able (abs s .rows (task t) .wait))) → Endable s t
+endable {s} R w t v waits =
+    let row : TaskWellFormed (task-row (task-at s t) (getD (s .waiting .key) t 0)) = rw (row-is s (task t) v) at (w .tasks t) in
     let cell-waits : T (not (able (task-at s t .wait))) = rw (row-is s (task t) v) at waits in
     record {
       readable = R;
@@ -111,12 +111,14 @@ module _ {s r : State} {t : ℕ} {code : Code} (waits : T (not (able (abs s .row
       leads (end-wait t code p) p (abs s .rows) _ (after-end-wait t code (somewhere .queue-named) p (abs s .rows) (somewhere .named) (leads-here _ _))
       ∙ ap (run same-key p) (sym (end-becomes .rows-are))
 
-  -- The rows stay well-formed, and the task is able.
-  pub end-kept : {counter : ℕ} {soonest : ℕ → ℕ} → T (ends-a-wait code) → WellFormedRows counter soonest (abs s .rows) → WellFormedRows counter soonest (abs r .rows)
+  -- The rows stay well-formed.
+  pub end-kept : T (ends-a-wait code) → WellFormedRows (abs s .rows) → WellFormedRows (abs r .rows)
   end-kept ends w = rw (end-becomes .rows-are) (leave w t (somewhere .queue-named) code 0 ends (somewhere .named))
 
-  pub end-able : abs r .rows (task t) .wait ≡ NoWait
-  end-able = ap (λ (x : TaskRow). x .wait) (ap (λ (m : Program.Rows Row). m (task t)) (end-becomes .rows-are) ∙ update-same {Row = Row} same-key (task t) _ _)
+  -- The end ticks of the other waits stay ahead.
+  pub ends-stay-ahead : (counter : ℕ) → ((j : ℕ) → EndAhead counter (wait-end (abs s .rows (task j) .wait))) → (j : ℕ) → EndAhead counter (wait-end (abs r .rows (task j) .wait))
+  ends-stay-ahead counter ends j = rw (end-becomes .rows-are, set-standing-is (somewhere .queue-named) _ (abs s .rows))
+      (task-cases t _ (λ i (x : TaskRow). EndAhead counter (wait-end (x .wait))) _ tt j (λ n. ends j))
 
 -- ── All waits of a chain end ──
 
@@ -179,7 +181,7 @@ module _ {s : State} {chain : ℕ} {code : Code} (a : Clearable s chain code) {t
   module _ {r : State} (e : Ended s t code r) where
     -- The record is sound when the wait has ended.
     ended-sound : Sound r
-    ended-sound = becomes-sound sound-now (end-becomes head-waits e) (end-kept head-waits e (a .ends) (rows-of sound-now))
+    ended-sound = becomes-sound sound-now (end-becomes head-waits e) (end-kept head-waits e (a .ends) (rows-of sound-now)) (ends-stay-ahead head-waits e (s .counter) (end-ahead sound-now))
 
     pub still-clearable : Clearable r chain code
     still-clearable = record { on = record { sound = ended-sound; low = a .on .low; high = a .on .high }; ends = a .ends }

@@ -12,8 +12,8 @@ use Rattle.rows.specs.Program.{update}
 use Rattle.chain.specs.Changes.{HasChain, Changed}
 use Rattle.model.specs.Sizes.{task-limit, counter-span}
 use Rattle.model.specs.Rows.{task, same-key, valid, Row, TaskRow}
-use Rattle.model.specs.Waits.{starting, ended, WaitQueue, object-of}
-use Rattle.model.specs.WellFormed.{WellFormedRows}
+use Rattle.model.specs.Waits.{wait-end, starting, ended, WaitQueue, object-of}
+use Rattle.model.specs.WellFormed.{EndAhead, WellFormedRows}
 use Rattle.model.specs.WaitQueues.{standing-in, set-standing}
 use Rattle.model.specs.declared.Code.{Code}
 use Rattle.model.specs.declared.Code.the-variants.{Ok as E-OK}
@@ -38,7 +38,7 @@ use Rattle.record.proofs.Laws.{with-task, with-waiting, task-changed, waiting-c
 -- ── What is known of a sound record ──
 
 -- Its rows are well-formed.
-pub rows-of : {s : State} → Sound s → WellFormedRows (s .counter) (λ t. 1) (abs s .rows)
+pub rows-of : {s : State} → Sound s → WellFormedRows (abs s .rows)
 unfolding abs
 rows-of S = S .well-formed .rows
 
@@ -46,12 +46,16 @@ pub counter-inside : {s : State} → Sound s → s .counter < counter-span
 unfolding abs
 counter-inside S = S .well-formed .counter-in-range
 
--- What becomes of a sound record is sound where its rows are well-formed.
-pub becomes-sound : {s r : State} {m : Program.Rows Row} → Sound s → Becomes s m r → WellFormedRows (s .counter) (λ t. 1) (abs r .rows) → Sound r
+pub end-ahead : {s : State} → Sound s → (t : ℕ) → EndAhead (s .counter) (wait-end (abs s .rows (task t) .wait))
 unfolding abs
-becomes-sound {s} {r} S b w = record {
+end-ahead S = S .well-formed .ends
+
+-- What becomes of a sound record is sound where its rows are well-formed and its end ticks ahead.
+pub becomes-sound : {s r : State} {m : Program.Rows Row} → Sound s → Becomes s m r → WellFormedRows (abs r .rows) → ((t : ℕ) → EndAhead (s .counter) (wait-end (abs r .rows (task t) .wait))) → Sound r
+unfolding abs
+becomes-sound {s} {r} S b w ends = record {
   readable = b .readable;
-  well-formed = record { counter-in-range = rw (b .counter-is) (counter-inside S); rows = subst (λ n. WellFormedRows n (λ t. 1) (abs r .rows)) (sym (b .counter-is)) w };
+  well-formed = record { counter-in-range = rw (b .counter-is) (counter-inside S); rows = w; ends = λ t. subst (λ n. EndAhead n (wait-end (abs r .rows (task t) .wait))) (sym (b .counter-is)) (ends t) };
 }
 
 -- The table of waiting tasks has the chain.
