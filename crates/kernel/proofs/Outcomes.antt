@@ -13,7 +13,7 @@ use Rattle.errors.proofs.Laws.{accepted, not-accepted}
 use Rattle.model.specs.Sizes.{call-limit}
 use Rattle.model.specs.Rows.{same-key, Row, Model}
 use Rattle.model.specs.Calls.{view-of}
-use Rattle.model.specs.Codes.{finished}
+use Rattle.model.specs.Codes.{values, finished}
 use Rattle.model.specs.Errors.{refused, refusal}
 use Rattle.model.specs.Step.{effect, step}
 use Rattle.model.specs.WellFormed.{WellFormed}
@@ -28,6 +28,7 @@ use Rattle.record.specs.declared.Step.{Step}
 use Rattle.record.specs.Meaning.{abs}
 use Rattle.record.specs.Sound.{Readable, Sound}
 use Rattle.record.specs.Step.{Becomes, Performs, refusal-of, Follows, Stepped}
+use Rattle.record.proofs.Laws.{refused-with}
 use Rattle.tasks.specs.Tick.{Ticked}
 
 -- An accepted call's step is its effect, run.
@@ -38,10 +39,9 @@ accepted-step : (m : Model) (c : Call) → T (not (eqb (c .number) 0)) → T (no
 unfolding step-of
 accepted-step m c n t = step-call m c n ∙ ap (λ o. record { state = record { environment = m .environment; rows = o .state }; answer = o .answer }) (run-accepted m c t)
 
--- A record with the same counter means these rows.
+-- The new record means these rows, and what calls only read as it was.
 same-model : {s r : State} {m : Program.Rows Row} → Becomes s m r → abs r ≡ record { environment = abs s .environment; rows = m }
-unfolding abs
-same-model b = λ i. record { environment = record { counter = b .counter-is i }; rows = b .rows-are i }
+same-model b = λ i. record { environment = b .environment-is i; rows = b .rows-are i }
 
 -- A record that means what the definition leaves is sound, if rows can be read from it.
 kept-sound : {s u : State} (c : Call) → Sound s → Readable u → abs u ≡ step (abs s) c .state → Sound u
@@ -62,10 +62,10 @@ module _ {s : State} {c : Call} {r : Step} where
   -- ── The three kinds of outcome ──
 
   pub stepped-unknown : call-limit < c .number → r ≡ refusal-of E-PAR s → Stepped s c r
-  stepped-unknown h e = record { unknown = λ n. e; unsound = λ l f. absurd (omega arith); sound = λ l S. absurd (omega arith) }
+  stepped-unknown h e = record { unknown = λ n. refused-with e; unsound = λ l f. absurd (omega arith); sound = λ l S. absurd (omega arith) }
 
   pub stepped-unsound : c .number ≤ call-limit → (Sound s → ⊥) → r ≡ refusal-of E-SYS s → Stepped s c r
-  stepped-unsound h f e = record { unknown = λ n. absurd (omega arith); unsound = λ l g. e; sound = λ l S. absurd (f S) }
+  stepped-unsound h f e = record { unknown = λ n. absurd (omega arith); unsound = λ l g. refused-with e; sound = λ l S. absurd (f S) }
 
   pub stepped-sound : c .number ≤ call-limit → Sound s → Follows s c r → Stepped s c r
   stepped-sound h S f = record { unknown = λ n. absurd (omega arith); unsound = λ l g. absurd (g S); sound = λ l T. f }
@@ -76,8 +76,10 @@ module _ {s : State} {c : Call} {r : Step} where
   follows-tick S z t =
       let is-tick : step (abs s) c ≡ _ = step-tick (abs s) c (rw z tt) in
       let meaning : abs (r .state) ≡ step (abs s) c .state = t .meaning-is ∙ ap (λ o. o .state) (sym is-tick) in
+      let answer : r .answer ≡ step (abs s) c .answer = t .answer-is ∙ ap (λ o. o .answer) (sym is-tick) in
       record {
-        answer-is = t .answer-is ∙ ap (λ o. o .answer) (sym is-tick);
+        answer-is = answer;
+        values-are = ap values answer;
         meaning-is = meaning;
         sound = kept-sound c S (t .readable) meaning;
         unchanged = λ n. absurd (eqb-no {a = c .number} {b = 0} n z);
@@ -89,8 +91,10 @@ module _ {s : State} {c : Call} {r : Step} where
         let row = refusals (abs s) c (no-eqb some) .by-row t in
         let same : r .state ≡ s = ap (λ (o : Step). o .state) f in
         let meaning : abs (r .state) ≡ step (abs s) c .state = ap abs same ∙ ap (λ o. o .state) (sym row) in
+        let answer : r .answer ≡ step (abs s) c .answer = ap (λ (o : Step). o .answer) f ∙ (ap (λ n. finished n 0 0 0) e ∙ ap (λ o. o .answer) (sym row)) in
         record {
-          answer-is = ap (λ (o : Step). o .answer) f ∙ (ap (λ n. finished n 0 0 0) e ∙ ap (λ o. o .answer) (sym row));
+          answer-is = answer;
+          values-are = ap values answer;
           meaning-is = meaning;
           sound = subst Sound (sym same) S;
           unchanged = λ n u. same;
@@ -100,8 +104,10 @@ module _ {s : State} {c : Call} {r : Step} where
     follows-accepted t p =
         let done = sym (accepted-step (abs s) c (no-eqb some) t) in
         let meaning : abs (r .state) ≡ step (abs s) c .state = same-model (p .becomes) ∙ ap (λ o. o .state) done in
+        let answer : r .answer ≡ step (abs s) c .answer = p .answer-is ∙ ap (λ o. o .answer) done in
         record {
-          answer-is = p .answer-is ∙ ap (λ o. o .answer) done;
+          answer-is = answer;
+          values-are = ap values answer;
           meaning-is = meaning;
           sound = kept-sound c S (p .becomes .readable) meaning;
           unchanged = λ n u. absurd (T-not (refused (view-of (abs s) c) c) t u);

@@ -34,7 +34,7 @@ use Rattle.record.specs.Sound.{Readable}
 use Rattle.record.specs.Step.{Becomes}
 use Rattle.record.proofs.Rows.{row-is}
 use Rattle.record.proofs.Standing.{messages-are, in-mailbox}
-use Rattle.record.proofs.Laws.{with-mailbox, same-row, changed-row, two-rows}
+use Rattle.record.proofs.Laws.{with-mailbox, same-row, changed-row, two-rows, same-environment}
 use Rattle.record.proofs.Laws as laws
 
 -- ── The record's messages ──
@@ -85,7 +85,7 @@ module _ {s : State} (R : Readable s) (b : ℕ) (ok : T (valid (mailbox b))) whe
         → Becomes s (update same-key (message g) v (update same-key (mailbox b) (with-messages l (abs s .rows (mailbox b))) (abs s .rows))) changed
     message-changed g v valid-message new old = record {
       rows-are = two-rows s changed (mailbox b) (message g) _ v ok valid-message mailbox-changed new others;
-      counter-is = refl;
+      environment-is = same-environment _ _ refl;
       readable = readable-messages;
     }
       where
@@ -169,7 +169,7 @@ module _ {s : State} (R : Readable s) (b : ℕ) (ok : T (valid (mailbox b))) whe
     messages-cleared = record {
       rows-are = fun-ext (λ i. update-cases same-key (λ h x. abs emptied .rows h ≡ x) (mailbox b) _ _
           (row-is emptied (mailbox b) ok ∙ mailbox-changed link (s .messages .key) [] d (R .sizes .message-keys)) i (others i));
-      counter-is = refl;
+      environment-is = same-environment _ _ refl;
       readable = readable-messages link (s .messages .key) [] d (R .sizes .message-keys);
     }
       where
@@ -203,7 +203,7 @@ module _ {s : State} (R : Readable s) (b : ℕ) (ok : T (valid (mailbox b))) whe
     pub mailbox-put : {x : Mailbox} → read-mailbox y ≡ x → Becomes s (update same-key (mailbox b) (mailbox-row x [] []) (abs s .rows)) (with-mailbox b y s)
     mailbox-put e = record {
       rows-are = changed-row s (with-mailbox b y s) (mailbox b) _ ok (rw (new-mailbox, e, no-waiter, no-message) refl) others;
-      counter-is = refl;
+      environment-is = same-environment _ _ refl;
       readable = record {
         sizes = record { tasks = R .sizes .tasks; queues = R .sizes .queues; mailboxes = length-set (s .mailboxes) b y ∙ R .sizes .mailboxes; task-keys = R .sizes .task-keys; message-keys = R .sizes .message-keys };
         waiting = R .waiting;

@@ -1,6 +1,7 @@
 pub mod Open
 pub mod Tests
 pub mod Choices
+pub mod Codes
 pub mod Step
 pub mod SixteenRuns
 pub mod Accepted

@@ -1,6 +1,6 @@
 -- Document 01, "Error numbers and their order": the codes, and what an answer is.
 use mathlib.Core.Bool.{Bool, false, _||_}
-use mathlib.Core.List.{List, [], _∷_}
+use mathlib.Core.List.{List, [], _∷_, List·Memᴰ as In}
 use Prim.Native.Nat.{ℕ}
 use lib.Dec.{eqb}
 use lib.IntN.{ℤ, pos, negℤ, natAbs}
@@ -30,6 +30,27 @@ number E-RLWAI = minus 49
 number E-TMOUT = minus 50
 number E-DLT = minus 51
 
+-- Document 01's codes in the order in which it names them: those of its table of errors, E_OK, and the other ends of a wait.
+abbrev pub code-table : List (Code × ℤ)
+code-table =
+    (E-PAR, minus 17)
+    ∷ (E-SYS, minus 5)
+    ∷ (E-CTX, minus 25)
+    ∷ (E-ID, minus 18)
+    ∷ (E-NOEXS, minus 42)
+    ∷ (E-OBJ, minus 41)
+    ∷ (E-QOVR, minus 43)
+    ∷ (E-ILUSE, minus 28)
+    ∷ (E-TMOUT, minus 50)
+    ∷ (E-OK, pos 0)
+    ∷ (E-RLWAI, minus 49)
+    ∷ (E-DLT, minus 51)
+    ∷ []
+
+-- Every code stands there with its number.
+abbrev pub CodesNumbered : Type 0
+CodesNumbered = (code : Code) → In (code, number code) code-table
+
 -- The code is one of these. Codes are compared by their numbers, of which no two are the same but for the sign.
 abbrev pub code-in : Code → List Code → Bool
 code-in code [] = false
@@ -57,6 +78,13 @@ values x = record { kind = kind (x .outcome); code-or-place = code-or-place (x .
 
 abbrev pub finished : Code → ℕ → ℕ → ℕ → Answer
 finished code a b c = record { outcome = Finished code; a = a; b = b; c = c }
+
+-- What `values` gives for a finished answer, and for a refusal, which has no words.
+abbrev pub finished-values : Code → ℕ → ℕ → ℕ → Values
+finished-values code a b c = record { kind = 0; code-or-place = number code; a = a; b = b; c = c }
+
+abbrev pub refused-values : Code → Values
+refused-values code = finished-values code 0 0 0
 
 abbrev pub waits : ℕ → Answer
 waits place = record { outcome = Waits place; a = 0; b = 0; c = 0 }

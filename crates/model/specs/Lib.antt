@@ -11,6 +11,7 @@ pub mod Mailboxes
 pub mod Tasks
 pub mod Step
 pub mod WellFormed
+pub mod Engine
 pub mod Refusals
 pub mod Answers
 pub mod Endings

@@ -7,6 +7,8 @@ use Rattle.lists.proofs.Each.{each-of-all}
 use Rattle.model.specs.Rows.{task, suspension, queue, mailbox, message, valid, no-task, no-queue, no-mailbox, free, Environment, Effect}
 use Rattle.model.specs.Calls.{names-task, reads-suspension, names-queue, names-mailbox, names-message, message-of, View, view-of}
 use Rattle.model.specs.Errors.{task-only}
+use Rattle.model.specs.Engine.{Performs}
+use Rattle.model.specs.declared.Answer.{Answer}
 use Rattle.model.specs.declared.Call.{Call}
 use Rattle.model.specs.declared.Wait.the-variants.{NoWait}
 use Rattle.model.proofs.Accepted.{reads-named, Passes, passes, accepted}
@@ -16,9 +18,8 @@ use Rattle.model.proofs.Choices.{cond-yes}
 use Rattle.model.proofs.KeptCalls.{Valid}
 use Rattle.model.proofs.Step.{rows-seen, view-is, numbered}
 use Rattle.record.specs.declared.State.{State}
-use Rattle.record.specs.declared.Step.{Step}
 use Rattle.record.specs.Meaning.{abs}
-use Rattle.record.specs.Step.{Accepted, Performs}
+use Rattle.record.specs.Step.{state-engine, Accepted}
 
 -- The counter that calls read is the record's.
 pub counter-of : (s : State) → abs s .environment .counter ≡ s .counter
@@ -44,8 +45,8 @@ module _ {n : ℕ} {s : State} {c : Call} (a : Accepted n s c) where
   call-is = ap (λ k. numbered k c) (a .number-is)
 
   -- What the call does with its number written out, it does.
-  pub performs : (f : Environment → View → Call → Effect) {r : Step} → Performs f s call r → Performs f s c r
-  performs f {r} p = subst (λ (d : Call). Performs f s d r) (sym call-is) p
+  pub performs : (f : Environment → View → Call → Effect) {after : State} {answer : Answer} → Performs state-engine f s call after answer → Performs state-engine f s c after answer
+  performs f {after} {answer} p = subst (λ (d : Call). Performs state-engine f s d after answer) (sym call-is) p
 
   numbered-call : Accepted n s call
   numbered-call = subst (Accepted n s) call-is a

@@ -12,6 +12,7 @@ use Rattle.chain.specs.Table.{chain-of}
 use Rattle.chain.proofs.Table.{length-lists, list-none}
 use Rattle.model.specs.Sizes.{mailbox-limit, message-limit}
 use Rattle.model.specs.Rows.{Key, task, suspension, queue, mailbox, message, valid, TaskRow, QueueRow, MailboxRow, MessageRow, Model, messages-by-priority, nothing}
+use Rattle.model.specs.Engine.{Lawful}
 use Rattle.model.specs.Waits.{WaitQueue, object-of, senders-of, receivers-of, waiters-of}
 use Rattle.model.specs.declared.Wait.the-variants.{NoWait}
 use Rattle.model.proofs.Choices.{cond-no, cond-yes}
@@ -27,6 +28,7 @@ use Rattle.record.specs.declared.State.{State}
 use Rattle.record.specs.Meaning.{task-at, queue-at, mailbox-at, mailbox-of, keeps-priorities, cells-of, abs}
 use Rattle.record.specs.Sound.{Sound}
 use Rattle.record.specs.Equal.{SameTask, SameQueue, SameMailbox, SameState, EqualStates}
+use Rattle.record.specs.Step.{state-engine}
 use Rattle.record.proofs.Rows.{passes-or-not, row-is}
 use Rattle.record.proofs.Standing.{message-lists}
 use Rattle.record.proofs.Parts.{Parts, sound-parts}
@@ -188,3 +190,7 @@ module _ (s u : State) (e : abs s ≡ abs u) where
 
 pub equal-states : EqualStates
 equal-states s u S U = (same-means s u S U, means-same s u)
+
+-- So the demands' theorems hold of the record.
+pub state-lawful : Lawful state-engine
+state-lawful = record { well-formed = λ s S. S .well-formed; equal-states = equal-states }

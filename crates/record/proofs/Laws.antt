@@ -17,10 +17,14 @@ use Rattle.chain.specs.declared.Chains.{Chains}
 use Rattle.chain.proofs.Standing.{new-list, other-list}
 use Rattle.ring.specs.Ring.{InRange}
 use Rattle.model.specs.Sizes.{task-limit, queue-limit}
-use Rattle.model.specs.Rows.{Key, task, suspension, queue, mailbox, message, same-key, valid, Row, Effect, nothing}
+use Rattle.model.specs.Rows.{Key, task, suspension, queue, mailbox, message, same-key, valid, Row, Environment, Effect, nothing}
+use Rattle.model.specs.Codes.{values}
+use Rattle.model.specs.Engine.{RefusedWith}
 use Rattle.model.specs.Waits.{WaitQueue, senders-of, receivers-of, waiters-of, object-of}
 use Rattle.model.specs.WaitQueues.{set-standing}
+use Rattle.model.specs.Engine as engine
 use Rattle.model.specs.declared.Answer.{Answer}
+use Rattle.model.specs.declared.Code.{Code}
 use Rattle.model.proofs.After.{After, after-return}
 use Rattle.model.proofs.Tests.{from-within}
 use Rattle.parts.specs.Chains.{task-chains, chain-number, tasks-in}
@@ -37,7 +41,7 @@ use Rattle.record.specs.declared.State.{State}
 use Rattle.record.specs.Meaning.{no-task-cells, no-queue-cells, task-at, queue-at, cells-of, abs}
 use Rattle.record.specs.Sound.{Readable}
 use Rattle.record.specs.declared.Step.{Step}
-use Rattle.record.specs.Step.{Becomes, Does}
+use Rattle.record.specs.Step.{state-engine, Becomes, refusal-of}
 use Rattle.record.proofs.Rows.{row-is}
 use Rattle.record.proofs.Chains.{chain-range}
 
@@ -81,13 +85,22 @@ two-rows s r k j v w valid-k valid-j new-k new-j old =
     fun-ext (λ i. update-cases same-key (λ h x. abs r .rows h ≡ x) j w (update same-key k v (abs s .rows)) (row-is r j valid-j ∙ new-j) i
     (λ n. update-cases same-key (λ h x. h ≢ j → abs r .rows h ≡ x) k v (abs s .rows) (λ o. row-is r k valid-k ∙ new-k) i (λ m o. same-row s r i (old i m o)) n))
 
+-- Of what calls only read, the record keeps the counter.
+pub same-environment : (s r : State) → r .counter ≡ s .counter → abs r .environment ≡ abs s .environment
+unfolding abs
+same-environment s r e = λ i. record { counter = e i }
+
+pub counter-is : {s r : State} {m : Program.Rows Row} → Becomes s m r → r .counter ≡ s .counter
+unfolding abs
+counter-is b = ap (λ (e : Environment). e .counter) (b .environment-is)
+
 -- Two changes in a row.
 pub and-then : {s r u : State} {m n : Program.Rows Row} → Becomes s m r → Becomes r n u → Becomes s n u
-and-then a b = record { rows-are = b .rows-are; counter-is = b .counter-is ∙ a .counter-is; readable = b .readable }
+and-then a b = record { rows-are = b .rows-are; environment-is = b .environment-is ∙ a .environment-is; readable = b .readable }
 
 -- The same rows under another name.
 pub meaning : {s r : State} {m n : Program.Rows Row} → m ≡ n → Becomes s m r → Becomes s n r
-meaning e a = record { rows-are = a .rows-are ∙ e; counter-is = a .counter-is; readable = a .readable }
+meaning e a = record { rows-are = a .rows-are ∙ e; environment-is = a .environment-is; readable = a .readable }
 
 -- ── Tasks ──
 
@@ -114,7 +127,7 @@ module _ {s : State} (R : Readable s) (t : ℕ) (ok : T (valid (task t))) (y : T
       → Becomes s (update same-key (task t) (task-row (read-task y) (getD (s .waiting .key) t 0)) (abs s .rows)) (with-task t y s)
   task-changed e = record {
     rows-are = changed-row s (with-task t y s) (task t) _ ok (ap (λ (x : Task). task-row x (getD (s .waiting .key) t 0)) new-task) others;
-    counter-is = refl;
+    environment-is = same-environment _ _ refl;
     readable = readable-task;
   }
     where
@@ -175,7 +188,7 @@ module _ {s : State} (R : Readable s) (k : WaitQueue) (ok : T (valid (object-of 
 pub waiting-changed : {s : State} → Readable s → (k : WaitQueue) → T (valid (object-of k)) → (link l : List ℕ)
     → Changed task-limit task-chains (chain-number k) (s .waiting .link) link l → Becomes s (set-standing k l (abs s .rows)) (with-waiting link s)
 unfolding set-standing
-waiting-changed {s} R k ok link l d = record { rows-are = rows k ok d; counter-is = refl; readable = readable-waiting R k ok link l d }
+waiting-changed {s} R k ok link l d = record { rows-are = rows k ok d; environment-is = same-environment _ _ refl; readable = readable-waiting R k ok link l d }
   where
     rows : (k : WaitQueue) → T (valid (object-of k)) → Changed task-limit task-chains (chain-number k) (s .waiting .link) link l → abs (with-waiting link s) .rows ≡ set-standing k l (abs s .rows)
     rows (senders-of q) ok d = changed-row s (with-waiting link s) (queue q) _ ok
@@ -216,7 +229,7 @@ module _ {s : State} (R : Readable s) (q : ℕ) (ok : T (valid (queue q))) (y : 
       → Becomes s (update same-key (queue q) (queue-row x (abs s .rows (queue q) .senders) (abs s .rows (queue q) .receivers)) (abs s .rows)) (with-queue q y s)
   queue-changed {x} e ring = record {
     rows-are = changed-row s (with-queue q y s) (queue q) _ ok (rw (row-is s (queue q) ok, new-queue, e) refl) others;
-    counter-is = refl;
+    environment-is = same-environment _ _ refl;
     readable = readable-queue (rw e ring);
   }
     where
@@ -230,16 +243,25 @@ module _ {s : State} (R : Readable s) (q : ℕ) (ok : T (valid (queue q))) (y : 
 -- ── What a step does ──
 
 -- A step does what a program leaves and returns.
-pub does : {p : Effect} {s : State} {r : Step} → After (λ n a. Becomes s n (r .state) × (r .answer ≡ a)) p (abs s .rows) → Does p s r
+pub does : {p : Effect} {s after : State} {answer : Answer} → After (λ n a. Becomes s n after × (answer ≡ a)) p (abs s .rows) → engine.Does state-engine p s after answer
 does h = record { becomes = h .holds .0; answer-is = h .holds .1 }
 
 -- A step that does what is left of a program on the record so far does the program.
-pub does-rest : {p q : Effect} {s u : State} {r : Step} → run same-key p (abs s .rows) ≡ run same-key q (abs u .rows) → u .counter ≡ s .counter → Does q u r → Does p s r
+pub does-rest : {p q : Effect} {s u after : State} {answer : Answer} → run same-key p (abs s .rows) ≡ run same-key q (abs u .rows) → u .counter ≡ s .counter
+    → engine.Does state-engine q u after answer → engine.Does state-engine p s after answer
 does-rest e f d = record {
-  becomes = rw e (record { rows-are = d .becomes .rows-are; counter-is = d .becomes .counter-is ∙ f; readable = d .becomes .readable });
+  becomes = rw e (record { rows-are = d .becomes .rows-are; environment-is = d .becomes .environment-is ∙ same-environment _ _ f; readable = d .becomes .readable });
   answer-is = rw e (d .answer-is);
 }
 
 -- A program that only answers leaves the record as it is.
-pub stays : {s : State} {x y : Answer} → Readable s → y ≡ x → Does (return x) s (record { state = s; answer = y })
-stays R e = does (after-return (record { rows-are = refl; counter-is = refl; readable = R }, e))
+pub stays : {s : State} {x y : Answer} → Readable s → y ≡ x → engine.Does state-engine (return x) s s y
+stays R e = does (after-return (record { rows-are = refl; environment-is = refl; readable = R }, e))
+
+-- A refusal as a whole, and its parts.
+module _ {code : Code} {s : State} {r : Step} where
+  pub refused-with : r ≡ refusal-of code s → RefusedWith code s (r .state) (r .answer)
+  refused-with e = let answer = ap (λ (x : Step). x .answer) e in record { state-is = ap (λ (x : Step). x .state) e; answer-is = answer; values-are = ap values answer }
+
+  pub refusal-is : RefusedWith code s (r .state) (r .answer) → r ≡ refusal-of code s
+  refusal-is h = λ i. record { state = h .state-is i; answer = h .answer-is i }

@@ -38,7 +38,7 @@ use Rattle.record.specs.Meaning.{task-at, cells-of, abs}
 use Rattle.record.specs.Sound.{Readable}
 use Rattle.record.specs.Step.{Becomes, Does, Accepted, Performs}
 use Rattle.record.proofs.Rows.{row-is}
-use Rattle.record.proofs.Laws.{with-task, changed-row, two-rows, new-task, other-task, readable-task, does, does-rest, stays}
+use Rattle.record.proofs.Laws.{with-task, changed-row, two-rows, same-environment, counter-is, new-task, other-task, readable-task, does, does-rest, stays}
 use Rattle.record.proofs.Accepted.{view, performs, passed, valid-task, the-task-is, suspended-is}
 use Rattle.waits.specs.Waiting.{Endable, Ended}
 use Rattle.waits.proofs.Laws.{rows-of}
@@ -88,7 +88,7 @@ pub suspension-changed : {s : State} → Readable s → (t : ℕ) → T (valid (
     → Becomes s (update same-key (suspension t) b (abs s .rows)) (with-task t y s)
 suspension-changed {s} R t ok b y e = record {
   rows-are = changed-row s r (suspension t) b ok (ap (λ (x : Task). x .suspended) new) others;
-  counter-is = refl;
+  environment-is = same-environment _ _ refl;
   readable = readable-task R t ok y;
 }
   where
@@ -147,7 +147,7 @@ module _ {s : State} (R : Readable s) (t : ℕ) (ok : T (valid (task t))) (prior
   task-anew : Becomes s (update same-key (suspension t) (x .suspended) (update same-key (task t) (task-row x priority) (abs s .rows))) written
   task-anew = record {
     rows-are = two-rows s written (task t) (suspension t) (task-row x priority) (x .suspended) ok ok (rw (new-cells, new-key) refl) (ap (λ (z : Task). z .suspended) new-cells) others;
-    counter-is = refl;
+    environment-is = same-environment _ _ refl;
     readable = readable-task with-key-readable t ok y;
   }
     where
@@ -203,7 +203,7 @@ module _ {s : State} {c : Call} where
     can-end = endable (a .sound .readable) (rows-of (a .sound)) (c .object) (valid-task a tt) waits-here
 
     pub wait-ended : {r : State} {x : Answer} → Ended s (c .object) E-RLWAI r → x ≡ finished E-OK 0 0 0 → Performs rel-wai s c (record { state = r; answer = x })
-    wait-ended e f = let b = end-becomes waits-here e in does-rest (end-runs waits-here e done) (b .counter-is) (stays (b .readable) f)
+    wait-ended e f = let b = end-becomes waits-here e in does-rest (end-runs waits-here e done) (counter-is b) (stays (b .readable) f)
 
   -- 22
   pub wait-looked-at : Accepted 22 s c → {x : Answer} {y : Task} {number object : ℕ} → y ≡ task-at s (c .object) → number ≡ wait-number (y .wait) → object ≡ wait-object (y .wait)

@@ -25,6 +25,7 @@ use Rattle.record.specs.declared.State.{State}
 use Rattle.record.specs.Meaning.{task-at, abs}
 use Rattle.record.specs.Sound.{Readable, Sound}
 use Rattle.record.proofs.Rows.{row-is}
+use Rattle.record.proofs.Laws.{counter-is}
 use Rattle.waits.specs.Waiting.{Endable, Ended}
 use Rattle.waits.proofs.Laws.{rows-of}
 use Rattle.waits.proofs.Ends.{endable, end-becomes, end-runs, end-kept}
@@ -129,7 +130,7 @@ module _ {counter : ℕ} {s₀ s : State} {n t : ℕ} (i : Ticking counter s₀ 
         let yes-due : T (due counter (wait-end (abs s .rows (task t) .wait))) = rw (wait-is, d) tt in
         record {
           readable = b .readable;
-          counter-is = b .counter-is ∙ i .counter-is;
+          counter-is = counter-is b ∙ i .counter-is;
           inside = i .inside;
           low = omega arith;
           high = omega arith;

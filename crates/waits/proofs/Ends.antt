@@ -43,7 +43,7 @@ use Rattle.waits.specs.Waiting.{chain-list, ChainOf, OnChain, ended-wait
 use Rattle.record.proofs.Rows.{passes-or-not, row-is}
 use Rattle.record.proofs.Chains.{chain-range, ChainOwner, chain-owner, named-chain}
 use Rattle.record.proofs.Standing.{stands-from}
-use Rattle.record.proofs.Laws.{with-task, with-waiting}
+use Rattle.record.proofs.Laws.{with-task, with-waiting, counter-is}
 use Rattle.waits.proofs.Laws.{rows-of, end-ahead, becomes-sound, has-chain, standing-chain, some-head, chain-of-queue, nobody-waits, ended-cell, ended-row, wait-changed}
 
 -- ── A wait ends ──
@@ -204,7 +204,7 @@ module _ {s : State} {chain : ℕ} {code : Code} (a : Clearable s chain code) {t
 
       pub ending-on : {s₀ : State} → Ending k code s₀ s → Ending k code s₀ r
       ending-on i = record {
-        counter-is = e .becomes k (waits-at-k k o) .counter-is ∙ i .counter-is;
+        counter-is = counter-is (e .becomes k (waits-at-k k o)) ∙ i .counter-is;
         runs = λ p. i .runs p ∙ one-ended p;
         others = λ d n. rw (e .becomes k (waits-at-k k o) .rows-are) (standing-left code (abs s .rows) k rest t d ∙ (update-other same-queue k rest (standing-in (abs s .rows)) d n ∙ i .others d n));
         messages = λ b. rw (e .becomes k (waits-at-k k o) .rows-are) (messages-left code (abs s .rows) k rest t b ∙ i .messages b);

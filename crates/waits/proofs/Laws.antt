@@ -33,7 +33,7 @@ use Rattle.record.specs.Step.{Becomes}
 use Rattle.waits.specs.Waiting.{chain-list, ChainOf, OnChain, Releasable}
 use Rattle.record.proofs.Standing.{standing-is, in-chain}
 use Rattle.record.proofs.Keys.{waits-defined}
-use Rattle.record.proofs.Laws.{with-task, with-waiting, task-changed, waiting-changed, and-then, meaning}
+use Rattle.record.proofs.Laws.{with-task, with-waiting, counter-is, task-changed, waiting-changed, and-then, meaning}
 
 -- ── What is known of a sound record ──
 
@@ -55,7 +55,7 @@ pub becomes-sound : {s r : State} {m : Program.Rows Row} → Sound s → Becomes
 unfolding abs
 becomes-sound {s} {r} S b w ends = record {
   readable = b .readable;
-  well-formed = record { counter-in-range = rw (b .counter-is) (counter-inside S); rows = w; ends = λ t. subst (λ n. EndAhead n (wait-end (abs r .rows (task t) .wait))) (sym (b .counter-is)) (ends t) };
+  well-formed = record { counter-in-range = rw (counter-is b) (counter-inside S); rows = w; ends = λ t. subst (λ n. EndAhead n (wait-end (abs r .rows (task t) .wait))) (sym (counter-is b)) (ends t) };
 }
 
 -- The table of waiting tasks has the chain.
