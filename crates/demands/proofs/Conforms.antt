@@ -1,5 +1,5 @@
 -- Demand 2: what the contract says, with the table's refusals of the definition carried over to records.
-use mathlib.Core.Path.{_≡_, refl, sym, _∙_, ap}
+use mathlib.Core.Path.{_≡_, refl, sym, _∙_, ap, subst}
 use mathlib.Core.Bool.{Bool, true, false, not}
 use mathlib.Core.List.{List}
 use native.Mathlib.Omega.{arith}
@@ -8,17 +8,17 @@ use lib.ListN.{getD}
 use Rattle.lists.specs.Lists.{Each, none, both}
 use Rattle.rows.specs.Program.{run, step-of}
 use Rattle.model.specs.Rows.{same-key, Model}
-use Rattle.model.specs.Codes.{finished}
+use Rattle.model.specs.Codes.{values, finished}
 use Rattle.model.specs.Calls.{view-of}
 use Rattle.model.specs.Errors.{ErrorRow, some-applies, first-that-applies, refused, refusal}
 use Rattle.model.specs.Step.{no-call, effects, effect, step}
+use Rattle.model.specs.Engine.{Engine, Lawful, RefusedWith}
 use Rattle.model.specs.declared.Call.{Call}
 use Rattle.model.proofs.Tests.{or-left}
 use Rattle.model.proofs.Choices.{cond-yes, cond-no}
 use Rattle.model.proofs.Step.{step-call, run-accepted}
-use Rattle.record.specs.Step.{refusal-of}
-use Rattle.record.specs.Meaning.{abs}
-use Rattle.record.proofs.Equal.{equal-states}
+use Rattle.record.specs.Step.{state-engine}
+use Rattle.record.proofs.Equal.{state-lawful}
 use Rattle.demands.specs.Conforms.{FirstToApply, applies, earlier-passed, Conforms, Settled}
 use Rattle.demands.proofs.Tests.{or-right}
 use Rattle.demands.proofs.Runs.{no-tick, follows}
@@ -47,23 +47,30 @@ none-applies (both {x = row} n e) = rw (unless (row .applies) n) (none-applies e
     unless true t = absurd t
     unless false t = refl
 
-pub conforms : Conforms
+pub conforms : {S : Type 0} (E : Engine S) → Conforms E
 unfolding refused refusal
-conforms s S c r h =
-    let f = follows h S in
+conforms E s sound c after answer h =
+    let f = follows h sound in
     record {
       answer-is = f .answer-is;
+      values-are = f .values-are;
       state-is = f .meaning-is;
-      error = λ low row first. let k = first-applies first in refused-step h S low (k .0) ∙ ap (λ code. refusal-of code s) (k .1);
-      no-error = λ low other e. no-error h S low other (none-applies e);
-      fetched = λ e n. f .answer-is ∙ fetch-answers (abs s) c e (none-applies n);
+      error = λ low row first. let k = first-applies first in subst (λ code. RefusedWith code s after answer) (k .1) (refused-step h sound low (k .0));
+      no-error = λ low other e. no-error h sound low other (none-applies e);
+      fetched = λ e n. let given = f .answer-is ∙ fetch-answers (E .abs s) c e (none-applies n) in record { answer-is = given; values-are = ap values given };
     }
 
-pub settled : Settled
-settled s s′ S S′ same c r r′ h h′ =
-    let f = follows h S in
-    let f′ = follows h′ S′ in
-    let m = equal-states s s′ S S′ .0 same in (
+pub settled : {S : Type 0} {E : Engine S} → Lawful E → Settled E
+settled {E = E} lawful s s′ sound sound′ same c after after′ answer answer′ h h′ =
+    let f = follows h sound in
+    let f′ = follows h′ sound′ in
+    let m = lawful .equal-states s s′ sound sound′ .0 same in (
       f .answer-is ∙ (ap (λ x. step x c .answer) m ∙ sym (f′ .answer-is)),
-      equal-states (r .state) (r′ .state) (f .sound) (f′ .sound) .1 (f .meaning-is ∙ (ap (λ x. step x c .state) m ∙ sym (f′ .meaning-is))),
+      lawful .equal-states after after′ (f .sound) (f′ .sound) .1 (f .meaning-is ∙ (ap (λ x. step x c .state) m ∙ sym (f′ .meaning-is))),
     )
+
+pub states-conform : Conforms state-engine
+states-conform = conforms state-engine
+
+pub states-settled : Settled state-engine
+states-settled = settled state-lawful

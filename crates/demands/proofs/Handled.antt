@@ -11,13 +11,14 @@ use Rattle.lists.specs.Lists.{Each, none, both, ascending}
 use Rattle.rows.specs.Program as Program
 use Rattle.model.specs.Sizes.{call-limit, task-limit, counter-span, within}
 use Rattle.model.specs.Rows.{Row, Effect, Model}
-use Rattle.model.specs.Codes.{finished}
+use Rattle.model.specs.Codes.{values, finished}
 use Rattle.model.specs.Calls.{View}
 use Rattle.model.specs.Errors.{unknown, caller-cannot-call, ErrorRow, error-table, some-applies, first-that-applies, refused, refusal}
 use Rattle.model.specs.WaitQueues.{take-out, end-wait}
 use Rattle.model.specs.Tasks.{expire, tick}
 use Rattle.model.specs.Step.{step}
 use Rattle.model.specs.Refusals.{NoError}
+use Rattle.model.specs.Engine.{Engine, RefusedWith, Stepped}
 use Rattle.model.specs.declared.Answer.{Answer}
 use Rattle.model.specs.declared.Call.{Call}
 use Rattle.model.specs.declared.Code.{Code}
@@ -31,11 +32,7 @@ use Rattle.model.proofs.Choices.{cond-yes, cond-no}
 use Rattle.model.proofs.Step.{step-tick}
 use Rattle.model.proofs.Refusals.{refusals}
 use Rattle.model.proofs.After.{After, after-return, after-get, after-put, after-if}
-use Rattle.record.specs.declared.State.{State}
-use Rattle.record.specs.declared.Step.{Step}
-use Rattle.record.specs.Meaning.{abs}
-use Rattle.record.specs.Sound.{Sound}
-use Rattle.record.specs.Step.{Stepped, refusal-of}
+use Rattle.record.specs.Step.{state-engine}
 use Rattle.record.proofs.Rows.{passes-or-not}
 use Rattle.demands.specs.Handled.{is-error, view-in, Handled}
 use Rattle.demands.proofs.Tests.{or-right}
@@ -102,55 +99,57 @@ tick-says-ok m = expire-says-ok ((m .environment .counter + 1) % counter-span) (
 
 -- ── Every call ──
 
-module _ {s : State} {c : Call} {r : Step} (h : Stepped s c r) (S : Sound s) where
-  pub refused-step : 1 ≤ c .number → T (refused (view-in s c) c) → r ≡ refusal-of (refusal (view-in s c) c) s
+module _ {S : Type 0} {E : Engine S} {s after : S} {c : Call} {answer : Answer} (h : Stepped E s c after answer) (sound : E .Sound s) where
+  pub refused-step : 1 ≤ c .number → T (refused (view-in E s c) c) → RefusedWith (refusal (view-in E s c) c) s after answer
   refused-step low t =
-      let f = follows h S in
+      let f = follows h sound in
       let not-tick = no-tick (c .number) low in
-      let state = f .unchanged not-tick t in
-      let answer : r .answer ≡ finished (refusal (view-in s c) c) 0 0 0 = f .answer-is ∙ ap (λ (o : Program.Result Model Answer). o .answer) (refusals (abs s) c not-tick .by-row t) in
-      λ i. record { state = state i; answer = answer i }
+      let given : answer ≡ finished (refusal (view-in E s c) c) 0 0 0 = f .answer-is ∙ ap (λ (o : Program.Result Model Answer). o .answer) (refusals (E .abs s) c not-tick .by-row t) in
+      record { state-is = f .unchanged not-tick t; finished-with = record { answer-is = given; values-are = ap values given } }
 
-  tick-step : c .number ≡ 0 → r .answer ≡ finished E-OK (r .answer .a) 0 0
+  tick-step : c .number ≡ 0 → answer ≡ finished E-OK (answer .a) 0 0
   tick-step e =
-      rw (follows h S .answer-is, step-tick (abs s) c (subst (λ n. T (eqb n 0)) (sym e) (eqb-refl 0)))
-      (tick-says-ok (abs s))
+      rw (follows h sound .answer-is, step-tick (E .abs s) c (subst (λ n. T (eqb n 0)) (sym e) (eqb-refl 0)))
+      (tick-says-ok (E .abs s))
 
-  pub no-error : 1 ≤ c .number → c .number ≢ 23 → T (not (refused (view-in s c) c)) → NoError (r .answer .outcome)
-  no-error low other t = rw (follows h S .answer-is) (refusals (abs s) c (no-tick (c .number) low) .else-no-error t (not-T (eqb (c .number) 23) (λ u. other (eqb→eq (c .number) 23 u))))
+  pub no-error : 1 ≤ c .number → c .number ≢ 23 → T (not (refused (view-in E s c) c)) → NoError (answer .outcome)
+  no-error low other t = rw (follows h sound .answer-is) (refusals (E .abs s) c (no-tick (c .number) low) .else-no-error t (not-T (eqb (c .number) 23) (λ u. other (eqb→eq (c .number) 23 u))))
 
   -- Where no row applies there is no error, and the tick answers none.
-  other-step : c .number ≢ 23 → (code : Code) → r .answer .outcome ≡ Finished code → code ≢ E-OK → (r ≡ refusal-of code s) × T (is-error code)
+  other-step : c .number ≢ 23 → (code : Code) → answer .outcome ≡ Finished code → code ≢ E-OK → RefusedWith code s after answer × T (is-error code)
   other-step other code e fault = elim (ℕ-discrete (c .number) 0) [
     | yes zero ↦ absurd (fault (ok code e (ap (λ (x : Answer). x .outcome) (tick-step zero))))
-    | no n ↦ passes-or-not (refused v c) (by-row (omega arith)) (λ t. absurd (fault (ok-code code (r .answer .outcome) e (no-error (omega arith) other t))))
+    | no n ↦ passes-or-not (refused v c) (by-row (omega arith)) (λ t. absurd (fault (ok-code code (answer .outcome) e (no-error (omega arith) other t))))
   ]
     where
       v : View
-      v = view-in s c
+      v = view-in E s c
 
-      ok : (code : Code) → r .answer .outcome ≡ Finished code → r .answer .outcome ≡ Finished E-OK → code ≡ E-OK
+      ok : (code : Code) → answer .outcome ≡ Finished code → answer .outcome ≡ Finished E-OK → code ≡ E-OK
       ok code e f = cc
 
       ok-code : (code : Code) (x : Outcome) → x ≡ Finished code → NoError x → code ≡ E-OK
       ok-code code (Finished d) e f = cc
       ok-code code (Waits place) e f = cc
 
-      by-row : 1 ≤ c .number → T (refused v c) → (r ≡ refusal-of code s) × T (is-error code)
+      by-row : 1 ≤ c .number → T (refused v c) → RefusedWith code s after answer × T (is-error code)
       by-row low t =
           let step = refused-step low t in
-          let same : refusal v c ≡ code = cc (ap (λ (x : Step). x .answer .outcome) step) in
-          subst (λ d. (r ≡ refusal-of d s) × T (is-error d)) same (step, refusal-is-error v c t)
+          let same : refusal v c ≡ code = cc (ap (λ (x : Answer). x .outcome) (step .finished-with .answer-is)) in
+          subst (λ d. RefusedWith d s after answer × T (is-error d)) same (step, refusal-is-error v c t)
 
-pub handled : Handled
-handled s c r h = record {
+pub handled : {S : Type 0} (E : Engine S) → Handled E
+handled E s c after answer h = record {
   unknown-number = h .unknown;
   not-sound = h .unsound;
-  cannot-call = λ S low high t.
-      let v = view-in s c in
-      refused-step h S low (caller-refused v c t) ∙ ap (λ code. refusal-of code s) (caller-refusal v c (known v c low high) t);
-  refused-by-row = λ S low t. (refused-step h S low t, refusal-is-error (view-in s c) c t);
-  no-other-refusal = λ S other code e fault. other-step h S other code e fault;
-  tick-accepted = λ S e. tick-step h S e;
-  stays-sound = λ S. follows h S .sound;
+  cannot-call = λ sound low high t.
+      let v = view-in E s c in
+      subst (λ code. RefusedWith code s after answer) (caller-refusal v c (known v c low high) t) (refused-step h sound low (caller-refused v c t));
+  refused-by-row = λ sound low t. (refused-step h sound low t, refusal-is-error (view-in E s c) c t);
+  no-other-refusal = λ sound other code e fault. other-step h sound other code e fault;
+  tick-accepted = λ sound e. let given = tick-step h sound e in record { answer-is = given; values-are = ap values given };
+  stays-sound = λ sound. follows h sound .sound;
 }
+
+pub states-handled : Handled state-engine
+states-handled = handled state-engine

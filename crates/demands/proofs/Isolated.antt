@@ -1,73 +1,105 @@
--- Demand 3 for records: runs of records are the definition's runs of what they mean, and there the claim is proved (crate model).
+-- Demand 3 for records: however calls are made, runs of records are the definition's runs of what they mean, and there the claim is proved (crate model).
 use mathlib.Core.Path.{_≡_, refl, sym, _∙_, ap, subst}
-use mathlib.Core.List.{List, _∷_}
-use Rattle.rows.specs.Merge.{Separate}
-use Rattle.rows.specs.Merges.{share, end-of-turns, answers-of-turns, SeparateAll}
+use mathlib.Core.Bool.{Bool}
+use mathlib.Core.List.{List, [], _∷_, map}
+use Rattle.lists.specs.Lists.{Each, none, both}
+use Rattle.rows.specs.Merge.{Merge, done, left, right, Separate}
+use Rattle.rows.specs.Merges.{keep-if, share, MergeOf, SeparateAll}
 use Rattle.model.specs.Step.{step}
-use Rattle.model.specs.declared.Answer.{Answer}
-use Rattle.model.specs.declared.Call.{Call}
+use Rattle.model.specs.Engine.{Engine, Lawful}
 use Rattle.model.proofs.Isolation.{isolation, isolation-from-empty, isolation-of-many}
 use Rattle.model.proofs.WellFormed.{well-formed-linked}
-use Rattle.record.specs.declared.State.{State}
-use Rattle.record.specs.Meaning.{abs}
-use Rattle.record.specs.Sound.{Sound}
-use Rattle.record.specs.Equal.{SameState}
-use Rattle.record.proofs.Equal.{equal-states}
-use Rattle.demands.specs.Runs.{Run, RunOfTurns, no-turn, one-turn}
+use Rattle.record.specs.Step.{state-engine}
+use Rattle.record.proofs.Equal.{state-lawful}
+use Rattle.demands.specs.Runs.{Interface, by-value}
 use Rattle.demands.specs.Isolated.{Undisturbed, Isolated, IsolatedFromEmpty, IsolatedMany}
-use Rattle.demands.proofs.Runs.{follows, run-follows}
+use Rattle.demands.proofs.Runs.{Faithful, by-value-faithful, each-turn, run-follows, turns-follow}
 
--- Sound records that mean the same are equal states.
-same-state : (s u : State) → Sound s → Sound u → abs s ≡ abs u → SameState s u
-same-state s u S U e = equal-states s u S U .1 e
+-- ── Lists read, and answers written ──
 
-undisturbed : (s : State) → Sound s → (xs ys : List Call) → Separate step (abs s) xs ys → Undisturbed Run SameState Sound s xs ys
-undisturbed s S xs ys h = record {
-  answers-alone = λ {turns} {zs} m p q o.
-      rw (run-follows S p .answers-are, run-follows S q .answers-are, run-follows S o .answers-are) (h .answers-alone turns zs m);
-  one-end = λ {turns} {turns′} {zs} {zs′} m n p q.
-      let f = run-follows S p in
-      let g = run-follows S q in
-      same-state _ _ (f .sound) (g .sound) (f .meaning-is ∙ (h .one-end turns turns′ zs zs′ m n ∙ sym (g .meaning-is)));
-  end-sound = λ m p. run-follows S p .sound;
-}
+merge-map : {X Y : Type 0} (f : X → Y) {turns : List Bool} {xs ys zs : List X} → Merge turns xs ys zs → Merge turns (map f xs) (map f ys) (map f zs)
+merge-map f done = done
+merge-map f (left m) = left (merge-map f m)
+merge-map f (right m) = right (merge-map f m)
 
-pub isolated : Isolated
-isolated s S a b apart placed-a placed-b xs ys own-a own-b =
-    undisturbed s S xs ys (isolation (abs s) (well-formed-linked (abs s) (S .well-formed)) a b apart placed-a placed-b xs ys own-a own-b)
+each-read : {X Y : Type 0} {f : X → Y} (P : Y → Type 0) {l : List X} → Each (λ x. P (f x)) l → Each P (map f l)
+each-read P none = none
+each-read P (both p ps) = both p (each-read P ps)
 
-pub isolated-from-empty : IsolatedFromEmpty
-isolated-from-empty s S counter e a b apart xs ys own-a own-b =
-    undisturbed s S xs ys (subst (λ m. Separate step m xs ys) (sym e) (isolation-from-empty counter a b apart xs ys own-a own-b))
-
--- ── Any number of carriers ──
-
-record TurnsFollow {I : Type 0} (s : State) (turns : List (I × Call)) (last : State) (given : List (I × Answer)) : Type 0 where
-  meaning-is : abs last ≡ end-of-turns step (abs s) turns
-  answers-are : given ≡ answers-of-turns step (abs s) turns
-  sound : Sound last
-
-turns-follow : {I : Type 0} {s last : State} {turns : List (I × Call)} {given : List (I × Answer)} → Sound s → RunOfTurns s turns last given → TurnsFollow s turns last given
-unfolding end-of-turns answers-of-turns
-turns-follow S no-turn = record { meaning-is = refl; answers-are = refl; sound = S }
-turns-follow {s = s} S (one-turn {i = i} {r = r} h rest) =
-    let f = follows h S in
-    let k = turns-follow (f .sound) rest in
-    record {
-      meaning-is = rw (← f .meaning-is) (k .meaning-is);
-      answers-are = rw (← f .meaning-is, ← f .answer-is) (ap (λ l. (i, r .answer) ∷ l) (k .answers-are));
-      sound = k .sound;
-    }
-
-pub isolated-many : IsolatedMany
-isolated-many I same-owner s S o lists placed own = record {
-  answers-alone = λ {turns} m p i q.
-      ap (share same-owner i) (turns-follow S p .answers-are) ∙ (h .answers-alone turns m i ∙ sym (run-follows S q .answers-are));
-  one-end = λ {turns} {turns′} m n p q.
-      let f = turns-follow S p in
-      let g = turns-follow S q in
-      same-state _ _ (f .sound) (g .sound) (f .meaning-is ∙ (h .one-end turns turns′ m n ∙ sym (g .meaning-is)));
-}
+-- What of the turns is an owner's is what f makes of the owner's share.
+share-each : {I X Y : Type 0} (same-owner : Discrete I) (f : X → Y) (i : I) (turns : List (I × X)) → share same-owner i (each-turn f turns) ≡ map f (share same-owner i turns)
+unfolding share each-turn keep-if
+share-each same-owner f i [] = refl
+share-each same-owner f i (turn ∷ turns) = kept (same-owner (turn .0) i) (share-each same-owner f i turns)
   where
-    h : SeparateAll same-owner step (abs s) lists
-    h = isolation-of-many I same-owner (abs s) (well-formed-linked (abs s) (S .well-formed)) o lists placed own
+    kept : (d : Dec (turn .0 ≡ i)) → share same-owner i (each-turn f turns) ≡ map f (share same-owner i turns)
+        → keep-if d (f (turn .1)) (share same-owner i (each-turn f turns)) ≡ map f (keep-if d (turn .1) (share same-owner i turns))
+    kept (yes p) e = ap (λ l. f (turn .1) ∷ l) e
+    kept (no n) e = e
+
+merge-each : {I X Y : Type 0} (same-owner : Discrete I) (f : X → Y) {lists : I → List X} (turns : List (I × X)) → MergeOf same-owner lists turns → MergeOf same-owner (λ i. map f (lists i)) (each-turn f turns)
+merge-each same-owner f turns m i = share-each same-owner f i turns ∙ ap (map f) (m i)
+
+-- ── Every engine, however calls are made ──
+
+module _ {S C A : Type 0} {E : Engine S} (lawful : Lawful E) {F : Interface S C A} (faithful : Faithful E F) where
+  -- Sound records that mean the same are equal states.
+  same-state : (s u : S) → E .Sound s → E .Sound u → E .abs s ≡ E .abs u → E .Same s u
+  same-state s u S U e = lawful .equal-states s u S U .1 e
+
+  undisturbed : (s : S) → E .Sound s → (xs ys : List C) → Separate step (E .abs s) (map (F .call-of) xs) (map (F .call-of) ys) → Undisturbed E F s xs ys
+  undisturbed s sound xs ys h = record {
+    answers-alone = λ {turns} {zs} m {x-answers = x} {y-answers = y} {z-answers = z} p q o.
+        let answers : Merge turns x y z =
+            rw (run-follows faithful sound p .answers-are, run-follows faithful sound q .answers-are, run-follows faithful sound o .answers-are)
+            (merge-map (faithful .answer-of) (h .answers-alone turns (map (F .call-of) zs) (merge-map (F .call-of) m))) in
+        record { answers = answers; values = merge-map (F .values-of) answers };
+    one-end = λ {turns} {turns′} {zs} {zs′} m n p q.
+        let f = run-follows faithful sound p in
+        let g = run-follows faithful sound q in
+        same-state _ _ (f .sound) (g .sound) (f .meaning-is ∙ (h .one-end turns turns′ _ _ (merge-map (F .call-of) m) (merge-map (F .call-of) n) ∙ sym (g .meaning-is)));
+    end-sound = λ m p. run-follows faithful sound p .sound;
+  }
+
+  pub isolated : Isolated E F
+  isolated s sound a b placed-a placed-b xs ys two =
+      undisturbed s sound xs ys
+      (isolation (E .abs s) (well-formed-linked (E .abs s) (lawful .well-formed s sound)) a b (two .disjoint) placed-a placed-b _ _ (each-read _ (two .calls-of-a)) (each-read _ (two .calls-of-b)))
+
+  pub isolated-from-empty : IsolatedFromEmpty E F
+  isolated-from-empty s sound counter e a b xs ys two =
+      undisturbed s sound xs ys
+      (subst (λ m. Separate step m (map (F .call-of) xs) (map (F .call-of) ys)) (sym e)
+      (isolation-from-empty counter a b (two .disjoint) _ _ (each-read _ (two .calls-of-a)) (each-read _ (two .calls-of-b))))
+
+  pub isolated-many : IsolatedMany E F
+  isolated-many I same-owner s sound o lists placed own = record {
+    answers-alone = λ {turns} m p i q.
+        let z = turns-follow faithful sound p in
+        let x = run-follows faithful sound q in
+        let same = ap (share same-owner i) (z .answers-are) ∙ (share-each same-owner (faithful .answer-of) i _ ∙ (ap (map (faithful .answer-of)) (h .answers-alone _ (read turns m) i) ∙ sym (x .answers-are))) in
+        (same, ap (map (F .values-of)) same);
+    one-end = λ {turns} {turns′} m n p q.
+        let f = turns-follow faithful sound p in
+        let g = turns-follow faithful sound q in
+        same-state _ _ (f .sound) (g .sound) (f .meaning-is ∙ (h .one-end _ _ (read turns m) (read turns′ n) ∙ sym (g .meaning-is)));
+    end-sound = λ m p. turns-follow faithful sound p .sound;
+  }
+    where
+      h : SeparateAll same-owner step (E .abs s) (λ i. map (F .call-of) (lists i))
+      h = isolation-of-many I same-owner (E .abs s) (well-formed-linked (E .abs s) (lawful .well-formed s sound)) o _
+          (λ i some. placed i (λ e. some (ap (map (F .call-of)) e))) (λ i. each-read _ (own i))
+
+      read : (turns : List (I × C)) → MergeOf same-owner lists turns → MergeOf same-owner (λ i. map (F .call-of) (lists i)) (each-turn (F .call-of) turns)
+      read = merge-each same-owner (F .call-of)
+
+-- ── The record `State` ──
+
+pub states-isolated : Isolated state-engine (by-value state-engine)
+states-isolated = isolated state-lawful (by-value-faithful state-engine)
+
+pub states-isolated-from-empty : IsolatedFromEmpty state-engine (by-value state-engine)
+states-isolated-from-empty = isolated-from-empty state-lawful (by-value-faithful state-engine)
+
+pub states-isolated-many : IsolatedMany state-engine (by-value state-engine)
+states-isolated-many = isolated-many state-lawful (by-value-faithful state-engine)

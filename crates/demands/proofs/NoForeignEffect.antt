@@ -13,8 +13,8 @@ use Rattle.rows.specs.Program.{step-of}
 use Rattle.rows.proofs.Footprint.{Closed, keeps-closed, outside}
 use Rattle.model.specs.Rows.{Key, task, suspension, queue, mailbox, message, same-key, Row, Model}
 use Rattle.model.specs.Step.{program, step}
+use Rattle.model.specs.Engine.{Engine, Lawful}
 use Rattle.model.specs.Isolation.{WaitsAt, QueuedAt, Linked, WaitsIn, QueuedIn, Placed, CallOf, Carrier, Own, Disjoint}
-use Rattle.model.specs.declared.Answer.{Answer}
 use Rattle.model.specs.declared.Call.{Call}
 use Rattle.model.specs.declared.Wait.{Wait}
 use Rattle.model.specs.declared.Wait.the-variants.{NoWait, Sending, Receiving, AtMailbox}
@@ -22,13 +22,12 @@ use Rattle.model.proofs.Tests.{or-left}
 use Rattle.model.proofs.Step.{step-call}
 use Rattle.model.proofs.Footprints.{NamedIn, in-program}
 use Rattle.model.proofs.WellFormed.{well-formed-linked}
-use Rattle.record.specs.declared.State.{State}
-use Rattle.record.specs.Meaning.{abs}
-use Rattle.record.specs.Sound.{Sound}
+use Rattle.record.specs.Step.{state-engine}
+use Rattle.record.proofs.Equal.{state-lawful}
 use Rattle.demands.specs.NoForeignEffect.{waits-at-object, may-change, NoForeignEffect}
-use Rattle.demands.specs.Runs.{Run, no-call, one-call}
+use Rattle.demands.specs.Runs.{Run, no-call, one-call, Interface, by-value}
 use Rattle.demands.proofs.Tests.{or-right}
-use Rattle.demands.proofs.Runs.{follows}
+use Rattle.demands.proofs.Runs.{follows, Faithful, by-value-faithful}
 
 -- ── What may change is closed ──
 
@@ -95,36 +94,42 @@ module _ (a b : Carrier) (apart : Disjoint a b) where
 
 -- ── Calls ──
 
--- What a call leaves alone, where its names lie in a closed set: the rows outside, the counter. The set stays closed.
-record Spares (S : Key → Type 0) (m n : Model) : Type 0 where
-  rows : (k : Key) → (S k → ⊥) → n .rows k ≡ m .rows k
-  counter : n .environment .counter ≡ m .environment .counter
+-- What a call leaves alone, where its names lie in a closed set: the rows outside, and what calls only read. The set stays closed.
+record Spares (K : Key → Type 0) (m n : Model) : Type 0 where
+  rows : (k : Key) → (K k → ⊥) → n .rows k ≡ m .rows k
+  environment : n .environment ≡ m .environment
 
-module _ (S : Key → Type 0) where
-  call-spares : (m : Model) (c : Call) → CallOf S c → Closed NamedIn S (m .rows) → Spares S m (step m c .state) × Closed NamedIn S (step m c .state .rows)
+module _ (K : Key → Type 0) where
+  call-spares : (m : Model) (c : Call) → CallOf K c → Closed NamedIn K (m .rows) → Spares K m (step m c .state) × Closed NamedIn K (step m c .state .rows)
   unfolding step-of
   call-spares m c own shut =
-      let inside = in-program S (m .environment) c (own .own-names) in
+      let inside = in-program K (m .environment) c (own .own-names) in
       rw (step-call m c (own .no-tick)) (
-        record { rows = outside same-key NamedIn S (λ x. Unit) (program (m .environment) c) (m .rows) inside shut; counter = refl },
-        keeps-closed same-key NamedIn S (λ x. Unit) (program (m .environment) c) (m .rows) inside shut,
+        record { rows = outside same-key NamedIn K (λ x. Unit) (program (m .environment) c) (m .rows) inside shut; environment = refl },
+        keeps-closed same-key NamedIn K (λ x. Unit) (program (m .environment) c) (m .rows) inside shut,
       )
 
-  run-spares : {s last : State} {calls : List Call} {answers : List Answer} → Sound s → Closed NamedIn S (abs s .rows) → Each (CallOf S) calls → Run s calls last answers → Spares S (abs s) (abs last)
-  run-spares sound shut none no-call = record { rows = λ k n. refl; counter = refl }
-  run-spares {s} sound shut (both {x = c} own owns) (one-call h rest) =
-      let f = follows h sound in
-      let k = rw (← f .meaning-is) at (call-spares (abs s) c own shut) in
-      let l = run-spares (f .sound) (k .1) owns rest in
-      record { rows = λ j n. l .rows j n ∙ k .0 .rows j n; counter = l .counter ∙ k .0 .counter }
+  module _ {S C A : Type 0} {E : Engine S} {F : Interface S C A} (faithful : Faithful E F) where
+    run-spares : {s last : S} {calls : List C} {answers : List A} → E .Sound s → Closed NamedIn K (E .abs s .rows) → Each (λ c. CallOf K (F .call-of c)) calls → Run (F .Steps) s calls last answers
+        → Spares K (E .abs s) (E .abs last)
+    run-spares sound shut none no-call = record { rows = λ k n. refl; environment = refl }
+    run-spares {s} sound shut (both {x = c} own owns) (one-call {after = after} h rest) =
+        let f = follows (faithful .steps h .stepped) sound in
+        let k = subst (λ n. Spares K (E .abs s) n × Closed NamedIn K (n .rows)) (sym (f .meaning-is)) (call-spares (E .abs s) (F .call-of c) own shut) in
+        let l = run-spares (f .sound) (k .1) owns rest in
+        record { rows = λ j n. l .rows j n ∙ k .0 .rows j n; environment = l .environment ∙ k .0 .environment }
 
-pub no-foreign-effect : NoForeignEffect
-unfolding abs
-no-foreign-effect s S a placed calls own last answers p =
-    let own-calls : Each (CallOf (MayChange a (abs s .rows))) calls = each-map (λ c o. record { no-tick = o .no-tick; own-names = each-map (λ k g t. own-may-change a (abs s .rows) k (g t)) (o .own-names) }) own in
-    let spares = run-spares (MayChange a (abs s .rows)) S (closed a (abs s .rows) (well-formed-linked (abs s) (S .well-formed)) placed) own-calls p in
+pub no-foreign-effect : {S C A : Type 0} {E : Engine S} → Lawful E → {F : Interface S C A} → Faithful E F → NoForeignEffect E F
+no-foreign-effect {E = E} lawful {F = F} faithful s sound a placed calls own last answers p =
+    let m = E .abs s .rows in
+    let shut = closed a m (well-formed-linked (E .abs s) (lawful .well-formed s sound)) placed in
+    let own-calls : Each (λ c. CallOf (MayChange a m) (F .call-of c)) calls = each-map (λ c o. record { no-tick = o .no-tick; own-names = each-map (λ k g t. own-may-change a m k (g t)) (o .own-names) }) own in
+    let spares = run-spares (MayChange a m) faithful sound shut own-calls p in
     record {
-      other-rows = λ k n. spares .rows k (T-not (may-change a (abs s .rows) k) n);
-      counter = spares .counter;
-      other-carrier = λ b apart placed-b k o. spares .rows k (other a b apart (abs s .rows) placed-b k o);
+      other-rows = λ k n. spares .rows k (T-not (may-change a m k) n);
+      environment = spares .environment;
+      other-carrier = λ b apart placed-b k o. spares .rows k (other a b apart m placed-b k o);
     }
+
+pub states-have-no-foreign-effect : NoForeignEffect state-engine (by-value state-engine)
+states-have-no-foreign-effect = no-foreign-effect state-lawful (by-value-faithful state-engine)

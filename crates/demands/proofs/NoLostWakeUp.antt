@@ -7,10 +7,14 @@ use lib.Dec.{T}
 use Rattle.lists.specs.Lists.{empty}
 use Rattle.rows.specs.Program as Program
 use Rattle.model.specs.Rows.{Row}
+use Rattle.model.specs.Engine.{Engine, Lawful}
 use Rattle.model.specs.WellFormed.{WellFormedRows}
 use Rattle.model.specs.Waits.{senders-of, receivers-of, waiters-of, wait-queue}
+use Rattle.record.specs.Step.{state-engine}
+use Rattle.record.proofs.Equal.{state-lawful}
+use Rattle.demands.specs.Runs.{Interface, by-value}
 use Rattle.demands.specs.NoLostWakeUp.{NobodyWaitsForWhatIsThere, NoLostWakeUp}
-use Rattle.demands.proofs.Runs.{run-follows}
+use Rattle.demands.proofs.Runs.{Faithful, by-value-faithful, run-follows}
 
 not-empty : {t : ℕ} {l : List ℕ} → In t l → T (not (empty l))
 unfolding empty
@@ -27,5 +31,8 @@ nobody-waits w = record {
   waiter-stands = λ t b end e. w .waiting .in-named t (waiters-of b) (ap wait-queue e);
 }
 
-pub no-lost-wake-up : NoLostWakeUp
-no-lost-wake-up s S calls last answers p = nobody-waits (run-follows S p .sound .well-formed .rows)
+pub no-lost-wake-up : {S C A : Type 0} {E : Engine S} → Lawful E → {F : Interface S C A} → Faithful E F → NoLostWakeUp E F
+no-lost-wake-up lawful faithful s sound calls last answers p = nobody-waits (lawful .well-formed last (run-follows faithful sound p .sound) .rows)
+
+pub states-lose-no-wake-up : NoLostWakeUp state-engine (by-value state-engine)
+states-lose-no-wake-up = no-lost-wake-up state-lawful (by-value-faithful state-engine)

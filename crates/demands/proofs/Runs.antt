@@ -1,28 +1,28 @@
--- A step of a sound record follows the definition, whatever the call's number, so a run does, and lists run: by induction on the run.
-use mathlib.Core.Path.{_≡_, refl, sym, ap, subst}
+-- A step of a sound record follows the definition, whatever the call's number; so does a run, however its calls are made; and lists run: by induction on the run.
+use mathlib.Core.Path.{_≡_, refl, sym, ap, _∙_, subst}
 use mathlib.Core.Bool.{Bool, true, false, not, _&&_}
-use mathlib.Core.List.{List, [], _∷_}
+use mathlib.Core.List.{List, [], _∷_, map}
 use Prim.Native.Nat.{ℕ, _≤_, _<_}
 use native.Mathlib.Omega.{arith}
 use native.Mathlib.Decide.{decLt}
 use lib.Dec.{T, eqb, leb, not-T, eqb→eq}
 use borrow.Author.Tests.{lt-leb}
 use Rattle.lists.specs.Lists.{none, both}
+use Rattle.rows.specs.Program as Program
 use Rattle.rows.specs.Runs.{end, answers}
+use Rattle.rows.specs.Merges.{end-of-turns, answers-of-turns}
 use Rattle.model.specs.Sizes.{call-limit}
+use Rattle.model.specs.Rows.{Model}
+use Rattle.model.specs.Codes.{values, finished}
 use Rattle.model.specs.Calls.{View, view-of}
 use Rattle.model.specs.Errors.{unknown, error-table, some-applies, first-that-applies, refused, refusal}
 use Rattle.model.specs.Step.{step}
+use Rattle.model.specs.Engine.{Engine, Follows, Stepped, SteppedAs}
+use Rattle.model.specs.declared.Answer.{Answer}
 use Rattle.model.specs.declared.Call.{Call}
 use Rattle.model.specs.declared.Code.the-variants.{Par as E-PAR}
-use Rattle.model.specs.declared.Answer.{Answer}
 use Rattle.model.proofs.Refusals.{refusals}
-use Rattle.record.specs.declared.State.{State}
-use Rattle.record.specs.declared.Step.{Step}
-use Rattle.record.specs.Meaning.{abs}
-use Rattle.record.specs.Sound.{Sound}
-use Rattle.record.specs.Step.{Stepped, Follows}
-use Rattle.demands.specs.Runs.{Run, no-call, one-call, ListsRun}
+use Rattle.demands.specs.Runs.{Run, no-call, one-call, RunOfTurns, no-turn, one-turn, ListsRun, Interface, by-value}
 
 -- A number above 23 is unknown: the first row of the table applies.
 is-unknown : (c : Call) → call-limit < c .number → unknown c ≡ true
@@ -45,44 +45,87 @@ unknown-refusal v c h = rw (is-unknown c h) refl
 pub no-tick : (n : ℕ) → 1 ≤ n → T (not (eqb n 0))
 no-tick n h = not-T (eqb n 0) (λ t. let e = eqb→eq n 0 t in omega arith)
 
-module _ {s : State} {c : Call} {r : Step} (h : Stepped s c r) (S : Sound s) where
-  unknown-follows : call-limit < c .number → Follows s c r
+module _ {S : Type 0} {E : Engine S} {s after : S} {c : Call} {answer : Answer} (h : Stepped E s c after answer) (sound : E .Sound s) where
+  unknown-follows : call-limit < c .number → Follows E s c after answer
   unknown-follows above =
-      let v = view-of (abs s) c in
+      let v = view-of (E .abs s .rows) c in
       let e = h .unknown above in
-      let by-row = refusals (abs s) c (no-tick (c .number) (omega arith)) .by-row (unknown-refused v c above) in
-      let code = unknown-refusal v c above in
+      let by-row = refusals (E .abs s) c (no-tick (c .number) (omega arith)) .by-row (unknown-refused v c above) in
+      let answered : answer ≡ step (E .abs s) c .answer =
+          e .finished-with .answer-is ∙ (ap (λ code. finished code 0 0 0) (sym (unknown-refusal v c above)) ∙ ap (λ (o : Program.Result Model Answer). o .answer) (sym by-row)) in
       record {
-        answer-is = rw (e, by-row, code);
-        meaning-is = rw (e, by-row);
-        sound = subst (λ (x : Step). Sound (x .state)) (sym e) S;
-        unchanged = λ n t. ap (λ (x : Step). x .state) e;
+        answer-is = answered;
+        values-are = ap values answered;
+        meaning-is = ap (E .abs) (e .state-is) ∙ ap (λ (o : Program.Result Model Answer). o .state) (sym by-row);
+        sound = subst (E .Sound) (sym (e .state-is)) sound;
+        unchanged = λ n t. e .state-is;
       }
 
-  pub follows : Follows s c r
-  follows = elim (decLt call-limit (c .number)) [ yes above ↦ unknown-follows above | no known ↦ h .sound (omega arith) S ]
+  pub follows : Follows E s c after answer
+  follows = elim (decLt call-limit (c .number)) [ yes above ↦ unknown-follows above | no known ↦ h .sound (omega arith) sound ]
+
+-- ── However calls are made ──
+
+-- Every step is one of the engine's, its call and its answer written otherwise.
+pub record Faithful {S C A : Type 0} (E : Engine S) (F : Interface S C A) : Type 0 where
+  pub answer-of : Answer → A
+  pub steps : {s after : S} {c : C} {given : A} → F .Steps s c after given → SteppedAs E (F .call-of) answer-of s c after given
+
+pub by-value-faithful : {S : Type 0} (E : Engine S) → Faithful E (by-value E)
+by-value-faithful E = record { answer-of = λ x. x; steps = λ h. record { answer = _; stepped = h; given-is = refl } }
+
+-- What f makes of each turn's call or answer.
+unfoldable pub each-turn : {I X Y : Type 0} → (X → Y) → List (I × X) → List (I × Y)
+each-turn f [] = []
+each-turn f (turn ∷ turns) = (turn .0, f (turn .1)) ∷ each-turn f turns
+
+cons-≡ : {X : Type 0} {x y : X} {xs ys : List X} → x ≡ y → xs ≡ ys → x ∷ xs ≡ y ∷ ys
+cons-≡ e es = λ i. e i ∷ es i
 
 -- A run from a sound record is the definition's run from what the record means.
-pub record RunFollows (s : State) (calls : List Call) (last : State) (given : List Answer) : Type 0 where
-  pub meaning-is : abs last ≡ end step (abs s) calls
-  pub answers-are : given ≡ answers step (abs s) calls
-  pub sound : Sound last
+pub record RunFollows {S C A : Type 0} (E : Engine S) (call-of : C → Call) (answer-of : Answer → A) (s : S) (calls : List C) (last : S) (given : List A) : Type 0 where
+  pub meaning-is : E .abs last ≡ end step (E .abs s) (map call-of calls)
+  pub answers-are : given ≡ map answer-of (answers step (E .abs s) (map call-of calls))
+  pub sound : E .Sound last
 
-pub run-follows : {s last : State} {calls : List Call} {given : List Answer} → Sound s → Run s calls last given → RunFollows s calls last given
-unfolding end answers
-run-follows S no-call = record { meaning-is = refl; answers-are = refl; sound = S }
-run-follows {s} S (one-call {c = c} {r = r} h rest) =
-    let f = follows h S in
-    let k = run-follows (f .sound) rest in
-    record {
-      meaning-is = rw (← f .meaning-is) (k .meaning-is);
-      answers-are = rw (← f .meaning-is, ← f .answer-is) (ap (λ l. r .answer ∷ l) (k .answers-are));
-      sound = k .sound;
-    }
+pub record TurnsFollow {I S C A : Type 0} (E : Engine S) (call-of : C → Call) (answer-of : Answer → A) (s : S) (turns : List (I × C)) (last : S) (given : List (I × A)) : Type 0 where
+  pub meaning-is : E .abs last ≡ end-of-turns step (E .abs s) (each-turn call-of turns)
+  pub answers-are : given ≡ each-turn answer-of (answers-of-turns step (E .abs s) (each-turn call-of turns))
+  pub sound : E .Sound last
 
-pub lists-run : ListsRun
-lists-run step Record Sent keeps s h [] none = record { last = s; answers = []; run = no-call }
-lists-run step Record Sent keeps s h (c ∷ calls) (both o os) =
+module _ {S C A : Type 0} {E : Engine S} {F : Interface S C A} (faithful : Faithful E F) where
+  pub run-follows : {s last : S} {calls : List C} {given : List A} → E .Sound s → Run (F .Steps) s calls last given → RunFollows E (F .call-of) (faithful .answer-of) s calls last given
+  unfolding end answers
+  run-follows sound no-call = record { meaning-is = refl; answers-are = refl; sound = sound }
+  run-follows sound (one-call {calls = calls} h rest) =
+      let k = faithful .steps h in
+      let f = follows (k .stepped) sound in
+      let others = run-follows (f .sound) rest in
+      record {
+        meaning-is = others .meaning-is ∙ ap (λ m. end step m (map (F .call-of) calls)) (f .meaning-is);
+        answers-are = cons-≡ (k .given-is ∙ ap (faithful .answer-of) (f .answer-is))
+            (others .answers-are ∙ ap (λ m. map (faithful .answer-of) (answers step m (map (F .call-of) calls))) (f .meaning-is));
+        sound = others .sound;
+      }
+
+  pub turns-follow : {I : Type 0} {s last : S} {turns : List (I × C)} {given : List (I × A)} → E .Sound s → RunOfTurns (F .Steps) s turns last given
+      → TurnsFollow E (F .call-of) (faithful .answer-of) s turns last given
+  unfolding end-of-turns answers-of-turns each-turn
+  turns-follow sound no-turn = record { meaning-is = refl; answers-are = refl; sound = sound }
+  turns-follow sound (one-turn {i = i} {turns = turns} h rest) =
+      let k = faithful .steps h in
+      let f = follows (k .stepped) sound in
+      let others = turns-follow (f .sound) rest in
+      record {
+        meaning-is = others .meaning-is ∙ ap (λ m. end-of-turns step m (each-turn (F .call-of) turns)) (f .meaning-is);
+        answers-are = cons-≡ (ap (λ x. (i, x)) (k .given-is ∙ ap (faithful .answer-of) (f .answer-is)))
+            (others .answers-are ∙ ap (λ m. each-turn (faithful .answer-of) (answers-of-turns step m (each-turn (F .call-of) turns))) (f .meaning-is));
+        sound = others .sound;
+      }
+
+pub lists-run : {S C A : Type 0} (Steps : S → C → S → A → Type 0) → ListsRun Steps
+lists-run Steps step Record Sent keeps s h [] none = record { last = s; answers = []; run = no-call }
+lists-run Steps step Record Sent keeps s h (c ∷ calls) (both o os) =
     let k = keeps s c h o in
-    let rest = lists-run step Record Sent keeps (step s c .state) (k .1) calls os in
-    record { last = rest .last; answers = step s c .answer ∷ rest .answers; run = one-call (k .0) (rest .run) }
+    let rest = lists-run Steps step Record Sent keeps (step s c .0) (k .1) calls os in
+    record { last = rest .last; answers = step s c .1 ∷ rest .answers; run = one-call (k .0) (rest .run) }

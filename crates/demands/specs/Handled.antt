@@ -5,18 +5,14 @@ use mathlib.Core.Logic.{_≢_}
 use Prim.Native.Nat.{_<_, _≤_}
 use lib.Dec.{T}
 use Rattle.model.specs.Sizes.{call-limit}
-use Rattle.model.specs.Codes.{finished}
 use Rattle.model.specs.Calls.{View, view-of}
 use Rattle.model.specs.Errors.{caller-cannot-call, refused, refusal}
+use Rattle.model.specs.Engine.{Engine, FinishedWith, RefusedWith, Stepped}
+use Rattle.model.specs.declared.Answer.{Answer}
 use Rattle.model.specs.declared.Code.{Code}
 use Rattle.model.specs.declared.Code.the-variants.{Ok as E-OK, Sys as E-SYS, Par as E-PAR, Id as E-ID, Ctx as E-CTX, Iluse as E-ILUSE, Obj as E-OBJ, Noexs as E-NOEXS, Qovr as E-QOVR, Rlwai as E-RLWAI, Tmout as E-TMOUT, Dlt as E-DLT}
 use Rattle.model.specs.declared.Call.{Call}
 use Rattle.model.specs.declared.Outcome.the-variants.{Finished}
-use Rattle.record.specs.declared.State.{State}
-use Rattle.record.specs.declared.Step.{Step}
-use Rattle.record.specs.Meaning.{abs}
-use Rattle.record.specs.Sound.{Sound}
-use Rattle.record.specs.Step.{Stepped, refusal-of}
 
 -- Document 01's errors: the codes in its table of error numbers.
 abbrev pub is-error : Code → Bool
@@ -34,26 +30,26 @@ is-error E-TMOUT = true
 is-error E-DLT = false
 
 -- What the call has in view in this record.
-abbrev pub view-in : State → Call → View
-view-in s c = view-of (abs s) c
+abbrev pub view-in : {S : Type 0} → Engine S → S → Call → View
+view-in E s c = view-of (E .abs s .rows) c
 
--- The record s with the call c gave r. `refusal-of code s` is that code with zero result words, and the very record s. (That every step ends, and does nothing undefined on its way, the checker
--- proves of every function.)
-pub record HandledSo (s : State) (c : Call) (r : Step) : Type 0 where
+-- The record s with the call c gave `after` and the answer. (That every step ends, and does nothing undefined on its way, the checker proves of every function.)
+pub record HandledSo {S : Type 0} (E : Engine S) (s : S) (c : Call) (after : S) (answer : Answer) : Type 0 where
   -- A number above 23 is unknown, whatever the record is.
-  pub unknown-number : call-limit < c .number → r ≡ refusal-of E-PAR s
+  pub unknown-number : call-limit < c .number → RefusedWith E-PAR s after answer
   -- Where the number is known, a record that isn't sound gets E_SYS; with the tick too.
-  pub not-sound : c .number ≤ call-limit → (Sound s → ⊥) → r ≡ refusal-of E-SYS s
+  pub not-sound : c .number ≤ call-limit → (E .Sound s → ⊥) → RefusedWith E-SYS s after answer
   -- So does a caller that can't call. The tick, number 0, has no caller.
-  pub cannot-call : Sound s → 1 ≤ c .number → c .number ≤ call-limit → T (caller-cannot-call (view-in s c) c) → r ≡ refusal-of E-SYS s
+  pub cannot-call : E .Sound s → 1 ≤ c .number → c .number ≤ call-limit → T (caller-cannot-call (view-in E s c) c) → RefusedWith E-SYS s after answer
   -- A call to which a row of the table applies is refused with the code of the first such row, which is one of document 01's errors.
-  pub refused-by-row : Sound s → 1 ≤ c .number → T (refused (view-in s c) c) → (r ≡ refusal-of (refusal (view-in s c) c) s) × T (is-error (refusal (view-in s c) c))
+  pub refused-by-row : E .Sound s → 1 ≤ c .number → T (refused (view-in E s c) c)
+      → RefusedWith (refusal (view-in E s c) c) s after answer × T (is-error (refusal (view-in E s c) c))
   -- There is no other refusal: whatever answers a code but E_OK is refused so. Only fetch, number 23, can answer a code that isn't its own but that of an ended wait.
-  pub no-other-refusal : Sound s → c .number ≢ 23 → (code : Code) → r .answer .outcome ≡ Finished code → code ≢ E-OK → (r ≡ refusal-of code s) × T (is-error code)
+  pub no-other-refusal : E .Sound s → c .number ≢ 23 → (code : Code) → answer .outcome ≡ Finished code → code ≢ E-OK → RefusedWith code s after answer × T (is-error code)
   -- The tick is never refused: E_OK, and one word.
-  pub tick-accepted : Sound s → c .number ≡ 0 → r .answer ≡ finished E-OK (r .answer .a) 0 0
+  pub tick-accepted : E .Sound s → c .number ≡ 0 → FinishedWith answer E-OK (answer .a) 0 0
   -- What is handed back can be handed in again.
-  pub stays-sound : Sound s → Sound (r .state)
+  pub stays-sound : E .Sound s → E .Sound after
 
-abbrev pub Handled : Type 0
-Handled = (s : State) (c : Call) (r : Step) → Stepped s c r → HandledSo s c r
+abbrev pub Handled : {S : Type 0} → Engine S → Type 0
+Handled {S} E = (s : S) (c : Call) (after : S) (answer : Answer) → Stepped E s c after answer → HandledSo E s c after answer

@@ -6,15 +6,11 @@ use lib.Dec.{T, eqb}
 use Rattle.lists.specs.Lists.{Each}
 use Rattle.rows.specs.Program as Program
 use Rattle.model.specs.Rows.{Key, task, suspension, queue, mailbox, message, Row}
+use Rattle.model.specs.Engine.{Engine}
 use Rattle.model.specs.Isolation.{Placed, CallOf, Carrier, Own, Disjoint}
-use Rattle.model.specs.declared.Answer.{Answer}
-use Rattle.model.specs.declared.Call.{Call}
 use Rattle.model.specs.declared.Wait.{Wait}
 use Rattle.model.specs.declared.Wait.the-variants.{NoWait, Sending, Receiving, AtMailbox}
-use Rattle.record.specs.declared.State.{State}
-use Rattle.record.specs.Meaning.{abs}
-use Rattle.record.specs.Sound.{Sound}
-use Rattle.demands.specs.Runs.{Run}
+use Rattle.demands.specs.Runs.{Run, Interface}
 
 -- Whether a task with this wait waits at one of the carrier's objects.
 abbrev pub waits-at-object : Carrier → Wait → Bool
@@ -32,18 +28,18 @@ may-change a m (mailbox b) = a .mailboxes b
 may-change a m (message g) = a .messages g || not (eqb (m (message g) .queued-in) 0) && a .mailboxes (m (message g) .queued-in)
 
 -- The record s became u.
-pub record OwnEffect (a : Carrier) (s u : State) : Type 0 where
+pub record OwnEffect {S : Type 0} (E : Engine S) (a : Carrier) (s u : S) : Type 0 where
   -- Every other row is as it was, and so is the counter.
-  pub other-rows : (k : Key) → T (not (may-change a (abs s .rows) k)) → abs u .rows k ≡ abs s .rows k
-  pub counter : u .counter ≡ s .counter
+  pub other-rows : (k : Key) → T (not (may-change a (E .abs s .rows) k)) → E .abs u .rows k ≡ E .abs s .rows k
+  pub environment : E .abs u .environment ≡ E .abs s .environment
   -- So each row of another carrier, one that has no number in common and whose waiting tasks and queued messages stand only in its own objects, is as it was.
-  pub other-carrier : (b : Carrier) → Disjoint a b → Placed (Own b) (abs s .rows) → (k : Key) → Own b k → abs u .rows k ≡ abs s .rows k
+  pub other-carrier : (b : Carrier) → Disjoint a b → Placed (Own b) (E .abs s .rows) → (k : Key) → Own b k → E .abs u .rows k ≡ E .abs s .rows k
 
 -- Any list of the carrier's calls, or one call.
-abbrev pub NoForeignEffect : Type 0
-NoForeignEffect =
-    (s : State) → Sound s
-    → (a : Carrier) → Placed (Own a) (abs s .rows)
-    → (calls : List Call) → Each (CallOf (Own a)) calls
-    → (last : State) (answers : List Answer) → Run s calls last answers
-    → OwnEffect a s last
+abbrev pub NoForeignEffect : {S C A : Type 0} → Engine S → Interface S C A → Type 0
+NoForeignEffect {S} {C} {A} E F =
+    (s : S) → E .Sound s
+    → (a : Carrier) → Placed (Own a) (E .abs s .rows)
+    → (calls : List C) → Each (λ c. CallOf (Own a) (F .call-of c)) calls
+    → (last : S) (answers : List A) → Run (F .Steps) s calls last answers
+    → OwnEffect E a s last

@@ -5,14 +5,10 @@ use Prim.Native.Nat.{ℕ}
 use lib.ListN.{length}
 use Rattle.rows.specs.Program as Program
 use Rattle.model.specs.Rows.{task, queue, mailbox, Row}
-use Rattle.model.specs.declared.Call.{Call}
+use Rattle.model.specs.Engine.{Engine}
 use Rattle.model.specs.declared.End.{End}
 use Rattle.model.specs.declared.Wait.the-variants.{Sending, Receiving, AtMailbox}
-use Rattle.model.specs.declared.Answer.{Answer}
-use Rattle.record.specs.declared.State.{State}
-use Rattle.record.specs.Meaning.{abs}
-use Rattle.record.specs.Sound.{Sound}
-use Rattle.demands.specs.Runs.{Run}
+use Rattle.demands.specs.Runs.{Run, Interface}
 
 pub record NobodyWaitsForWhatIsThere (m : Program.Rows Row) : Type 0 where
   -- At a queue where a receiver stands there is no word and no sender.
@@ -27,5 +23,7 @@ pub record NobodyWaitsForWhatIsThere (m : Program.Rows Row) : Type 0 where
   pub waiter-stands : (t b : ℕ) (end : End) → m (task t) .wait ≡ AtMailbox b end → In t (m (mailbox b) .waiters)
 
 -- Any list of calls and ticks.
-abbrev pub NoLostWakeUp : Type 0
-NoLostWakeUp = (s : State) → Sound s → (calls : List Call) (last : State) (answers : List Answer) → Run s calls last answers → NobodyWaitsForWhatIsThere (abs last .rows)
+abbrev pub NoLostWakeUp : {S C A : Type 0} → Engine S → Interface S C A → Type 0
+NoLostWakeUp {S} {C} {A} E F =
+    (s : S) → E .Sound s → (calls : List C) (last : S) (answers : List A) → Run (F .Steps) s calls last answers
+    → NobodyWaitsForWhatIsThere (E .abs last .rows)

@@ -1,33 +1,45 @@
--- Document 01, "What demand 3 compares": runs of records. Antt can't name the kernel's step, only its contract, `Stepped`; so what is said of every run in this sense holds of the kernel's.
+-- Document 01, "What demand 3 compares": runs. Antt can't name a step of the code, only its contract; so what is said of every run of steps that keep the contract holds of the code's.
 use mathlib.Core.List.{List, [], _∷_}
 use Rattle.lists.specs.Lists.{Each}
+use Rattle.model.specs.Codes.{Values, values}
+use Rattle.model.specs.Engine.{Engine, Stepped}
 use Rattle.model.specs.declared.Answer.{Answer}
 use Rattle.model.specs.declared.Call.{Call}
-use Rattle.record.specs.declared.State.{State}
-use Rattle.record.specs.declared.Step.{Step}
-use Rattle.record.specs.Step.{Stepped}
 
--- `Run s calls last answers`: the first call gets the record s, each later one the record that the call before it handed back; the last call hands back `last`. A call of number 0 is the tick.
-pub data Run : State → List Call → State → List Answer → Type 0 where
-  no-call : {s : State} → Run s [] s []
-  one-call : {s last : State} {c : Call} {calls : List Call} {r : Step} {answers : List Answer}
-      → Stepped s c r → Run (r .state) calls last answers → Run s (c ∷ calls) last (r .answer ∷ answers)
+-- `Steps s c after answer` is the contract of one call: it found the record as s, handed it back or left it as `after`, and gave the answer. `Run Steps s calls last answers`: the first call gets the
+-- record s, each later one the record that the call before it handed back or left; that of the last call is `last`. A call of number 0 is the tick.
+pub data Run {S C A : Type 0} (Steps : S → C → S → A → Type 0) : S → List C → S → List A → Type 0 where
+  no-call : {s : S} → Run Steps s [] s []
+  one-call : {s after last : S} {c : C} {answer : A} {calls : List C} {answers : List A}
+      → Steps s c after answer → Run Steps after calls last answers → Run Steps s (c ∷ calls) last (answer ∷ answers)
 
 -- The same where each call stands beside its owner, and so each answer.
-pub data RunOfTurns {I : Type 0} : State → List (I × Call) → State → List (I × Answer) → Type 0 where
-  no-turn : {s : State} → RunOfTurns s [] s []
-  one-turn : {s last : State} {i : I} {c : Call} {turns : List (I × Call)} {r : Step} {answers : List (I × Answer)}
-      → Stepped s c r → RunOfTurns (r .state) turns last answers → RunOfTurns s ((i, c) ∷ turns) last ((i, r .answer) ∷ answers)
+pub data RunOfTurns {I S C A : Type 0} (Steps : S → C → S → A → Type 0) : S → List (I × C) → S → List (I × A) → Type 0 where
+  no-turn : {s : S} → RunOfTurns Steps s [] s []
+  one-turn : {s after last : S} {i : I} {c : C} {answer : A} {turns : List (I × C)} {answers : List (I × A)}
+      → Steps s c after answer → RunOfTurns Steps after turns last answers → RunOfTurns Steps s ((i, c) ∷ turns) last ((i, answer) ∷ answers)
 
-pub record SomeRun (s : State) (calls : List Call) : Type 0 where
-  pub last : State
-  pub answers : List Answer
-  pub run : Run s calls last answers
+pub record SomeRun {S C A : Type 0} (Steps : S → C → S → A → Type 0) (s : S) (calls : List C) : Type 0 where
+  pub last : S
+  pub answers : List A
+  pub run : Run Steps s calls last answers
 
 -- There are runs: a step that keeps the contract runs every list. `Record` and `Sent` say which records and calls the step is made for, as those that fit the fields of Rattle's structs; what it
 -- hands back is such a record again.
-abbrev pub ListsRun : Type 1
-ListsRun =
-    (step : State → Call → Step) (Record : State → Type 0) (Sent : Call → Type 0)
-    → ((s : State) (c : Call) → Record s → Sent c → Stepped s c (step s c) × Record (step s c .state))
-    → (s : State) → Record s → (calls : List Call) → Each Sent calls → SomeRun s calls
+abbrev pub ListsRun : {S C A : Type 0} → (S → C → S → A → Type 0) → Type 1
+ListsRun {S} {C} {A} Steps =
+    (step : S → C → S × A) (Record : S → Type 0) (Sent : C → Type 0)
+    → ((s : S) (c : C) → Record s → Sent c → Steps s c (step s c .0) (step s c .1) × Record (step s c .0))
+    → (s : S) → Record s → (calls : List C) → Each Sent calls → SomeRun Steps s calls
+
+-- ── How calls are made ──
+
+-- A way to make calls on records S: as which call each one is read, what an answer is in document 01's numbers, and the contract of one call.
+pub record Interface (S C A : Type 0) : Type 1 where
+  pub call-of : C → Call
+  pub values-of : A → Values
+  pub Steps : S → C → S → A → Type 0
+
+-- The step itself, which takes the record and hands it back.
+abbrev pub by-value : {S : Type 0} → Engine S → Interface S Call Answer
+by-value E = record { call-of = λ c. c; values-of = values; Steps = Stepped E }

@@ -79,12 +79,9 @@ values x = record { kind = kind (x .outcome); code-or-place = code-or-place (x .
 abbrev pub finished : Code → ℕ → ℕ → ℕ → Answer
 finished code a b c = record { outcome = Finished code; a = a; b = b; c = c }
 
--- What `values` gives for a finished answer, and for a refusal, which has no words.
+-- The same in document 01's numbers.
 abbrev pub finished-values : Code → ℕ → ℕ → ℕ → Values
 finished-values code a b c = record { kind = 0; code-or-place = number code; a = a; b = b; c = c }
-
-abbrev pub refused-values : Code → Values
-refused-values code = finished-values code 0 0 0
 
 abbrev pub waits : ℕ → Answer
 waits place = record { outcome = Waits place; a = 0; b = 0; c = 0 }

@@ -9,7 +9,7 @@ use Rattle.rows.specs.Program as Program
 use Rattle.rows.specs.Program.{run}
 use Rattle.model.specs.Sizes.{call-limit}
 use Rattle.model.specs.Rows.{same-key, Row, Environment, Model, Effect}
-use Rattle.model.specs.Codes.{Code, E-PAR, E-SYS, values, finished, refused-values}
+use Rattle.model.specs.Codes.{Code, E-PAR, E-SYS, values, finished, finished-values}
 use Rattle.model.specs.Calls.{Call, View, view-of}
 use Rattle.model.specs.Errors.{refused}
 use Rattle.model.specs.Step.{step}
@@ -55,11 +55,15 @@ Performs E f s c after answer = Does E (f (E .abs s .environment) (view-of (E .a
 
 -- ── Any record, with any call or tick ──
 
--- The call is refused: the very record, and this code with no words, in document 01's numbers too.
+-- The answer is finished with this code and these words, in document 01's numbers too.
+pub record FinishedWith (answer : Answer) (code : Code) (a b c : ℕ) : Type 0 where
+  pub answer-is : answer ≡ finished code a b c
+  pub values-are : values answer ≡ finished-values code a b c
+
+-- The call is refused: the very record, and this code with no words.
 pub record RefusedWith {S : Type 0} (code : Code) (s after : S) (answer : Answer) : Type 0 where
   pub state-is : after ≡ s
-  pub answer-is : answer ≡ finished code 0 0 0
-  pub values-are : values answer ≡ refused-values code
+  pub finished-with : FinishedWith answer code 0 0 0
 
 -- Answer and state are the definition's, the answer in document 01's numbers too, and the new record is sound. A refused call hands back the very record. What else the new record holds is free; which
 -- parts these are, is said where the record's meaning is.

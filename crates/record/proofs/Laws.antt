@@ -261,7 +261,7 @@ stays R e = does (after-return (record { rows-are = refl; environment-is = refl;
 -- A refusal as a whole, and its parts.
 module _ {code : Code} {s : State} {r : Step} where
   pub refused-with : r ≡ refusal-of code s → RefusedWith code s (r .state) (r .answer)
-  refused-with e = let answer = ap (λ (x : Step). x .answer) e in record { state-is = ap (λ (x : Step). x .state) e; answer-is = answer; values-are = ap values answer }
+  refused-with e = let answer = ap (λ (x : Step). x .answer) e in record { state-is = ap (λ (x : Step). x .state) e; finished-with = record { answer-is = answer; values-are = ap values answer } }
 
   pub refusal-is : RefusedWith code s (r .state) (r .answer) → r ≡ refusal-of code s
-  refusal-is h = λ i. record { state = h .state-is i; answer = h .answer-is i }
+  refusal-is h = λ i. record { state = h .state-is i; answer = h .finished-with .answer-is i }
