@@ -1,29 +1,38 @@
--- Document 01, "What demand 3 compares": runs in which the record stays where it is. The first call gets the starting state, each later one the state that the call before it left.
-use mathlib.Core.List.{List, [], _∷_}
+-- Document 01, "What demand 3 compares": calls on a record that stays where it is. The first call of a run gets the starting state, each later one the state that the call before it left.
+use mathlib.Core.Path.{_≡_}
+use mathlib.Core.Bool.{cond}
+use lib.Dec.{eqb}
+use lib.IntN.{pos}
+use Rattle.model.specs.Codes.{Values, values}
 use Rattle.model.specs.declared.Answer.{Answer}
 use Rattle.model.specs.declared.Call.{Call}
 use Rattle.record.specs.declared.State.{State}
+use Rattle.demands.specs.Runs.{ListsRun, Interface}
 use Rattle.entry.specs.Entered.{Entered}
+use Rattle.host_calls.specs.Calls.{call-of, answer-of}
 use Rattle.host_calls.specs.declared.HostAnswer.{HostAnswer}
 use Rattle.host_calls.specs.declared.HostCall.{HostCall}
 use Rattle.linguastel.specs.Called.{Called}
 
--- `Called before call after answer` is the contract of one call: it found the lent record as `before` and left it as `after`.
-pub data LentRun {S C A : Type 0} (Called : S → C → S → A → Type 0) : S → List C → S → List A → Type 0 where
-  no-call : {s : S} → LentRun Called s [] s []
-  one-call : {s after last : S} {c : C} {answer : A} {calls : List C} {answers : List A}
-      → Called s c after answer → LentRun Called after calls last answers → LentRun Called s (c ∷ calls) last (answer ∷ answers)
-
--- The same where each call stands beside its owner, and so each answer.
-pub data LentRunOfTurns {I S C A : Type 0} (Called : S → C → S → A → Type 0) : S → List (I × C) → S → List (I × A) → Type 0 where
-  no-turn : {s : S} → LentRunOfTurns Called s [] s []
-  one-turn : {s after last : S} {i : I} {c : C} {answer : A} {turns : List (I × C)} {answers : List (I × A)}
-      → Called s c after answer → LentRunOfTurns Called after turns last answers → LentRunOfTurns Called s ((i, c) ∷ turns) last ((i, answer) ∷ answers)
-
 -- Through the thin entry.
-abbrev pub EntryRun : State → List Call → State → List Answer → Type 0
-EntryRun = LentRun Entered
+abbrev pub through-entry : Interface State Call Answer
+through-entry = record { call-of = λ c. c; values-of = values; Steps = Entered }
+
+-- What a host's answer is in document 01's numbers: the code where it is finished, kind 0, and else the place.
+abbrev pub host-values : HostAnswer → Values
+host-values x = record { kind = x .kind; code-or-place = cond (eqb (x .kind) 0) (x .code) (pos (x .place)); a = x .a; b = x .b; c = x .c }
+
+-- It is what the answer was before it was written for the host.
+abbrev pub HostValues : Type 0
+HostValues = (x : Answer) → host-values (answer-of x) ≡ values x
 
 -- Through the function that hosts call, a call of number 0 being the tick.
-abbrev pub HostRun : State → List HostCall → State → List HostAnswer → Type 0
-HostRun = LentRun Called
+abbrev pub for-hosts : Interface State HostCall HostAnswer
+for-hosts = record { call-of = call-of; values-of = host-values; Steps = Called }
+
+-- There are such runs.
+abbrev pub ListsRunThroughEntry : Type 1
+ListsRunThroughEntry = ListsRun Entered
+
+abbrev pub ListsRunForHosts : Type 1
+ListsRunForHosts = ListsRun Called
