@@ -51,8 +51,8 @@ module _ {S C A : Type 0} {E : Engine S} (lawful : Lawful E) {F : Interface S C 
   undisturbed s sound xs ys h = record {
     answers-alone = λ {turns} {zs} m {x-answers = x} {y-answers = y} {z-answers = z} p q o.
         let answers : Merge turns x y z =
-            rw (run-follows faithful sound p .answers-are, run-follows faithful sound q .answers-are, run-follows faithful sound o .answers-are)
-            (merge-map (faithful .answer-of) (h .answers-alone turns (map (F .call-of) zs) (merge-map (F .call-of) m))) in
+        rw (run-follows faithful sound p .answers-are, run-follows faithful sound q .answers-are, run-follows faithful sound o .answers-are)
+        (merge-map (faithful .answer-of) (h .answers-alone turns (map (F .call-of) zs) (merge-map (F .call-of) m))) in
         record { answers = answers; values = merge-map (F .values-of) answers };
     one-end = λ {turns} {turns′} {zs} {zs′} m n p q.
         let f = run-follows faithful sound p in

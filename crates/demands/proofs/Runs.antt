@@ -7,7 +7,7 @@ use native.Mathlib.Omega.{arith}
 use native.Mathlib.Decide.{decLt}
 use lib.Dec.{T, eqb, leb, not-T, eqb→eq}
 use borrow.Author.Tests.{lt-leb}
-use Rattle.lists.specs.Lists.{none, both}
+use Rattle.lists.specs.Lists.{Each, none, both}
 use Rattle.rows.specs.Program as Program
 use Rattle.rows.specs.Runs.{end, answers}
 use Rattle.rows.specs.Merges.{end-of-turns, answers-of-turns}
@@ -22,7 +22,8 @@ use Rattle.model.specs.declared.Answer.{Answer}
 use Rattle.model.specs.declared.Call.{Call}
 use Rattle.model.specs.declared.Code.the-variants.{Par as E-PAR}
 use Rattle.model.proofs.Refusals.{refusals}
-use Rattle.demands.specs.Runs.{Run, no-call, one-call, RunOfTurns, no-turn, one-turn, ListsRun, Interface, by-value}
+use Rattle.record.specs.Step.{state-engine}
+use Rattle.demands.specs.Runs.{Run, no-call, one-call, RunOfTurns, no-turn, one-turn, SomeRun, SomeRunOfTurns, SomeStep, ListsRun, Interface, by-value}
 
 -- A number above 23 is unknown: the first row of the table applies.
 is-unknown : (c : Call) → call-limit < c .number → unknown c ≡ true
@@ -52,7 +53,7 @@ module _ {S : Type 0} {E : Engine S} {s after : S} {c : Call} {answer : Answer} 
       let e = h .unknown above in
       let by-row = refusals (E .abs s) c (no-tick (c .number) (omega arith)) .by-row (unknown-refused v c above) in
       let answered : answer ≡ step (E .abs s) c .answer =
-          e .finished-with .answer-is ∙ (ap (λ code. finished code 0 0 0) (sym (unknown-refusal v c above)) ∙ ap (λ (o : Program.Result Model Answer). o .answer) (sym by-row)) in
+      e .finished-with .answer-is ∙ (ap (λ code. finished code 0 0 0) (sym (unknown-refusal v c above)) ∙ ap (λ (o : Program.Result Model Answer). o .answer) (sym by-row)) in
       record {
         answer-is = answered;
         values-are = ap values answered;
@@ -123,9 +124,25 @@ module _ {S C A : Type 0} {E : Engine S} {F : Interface S C A} (faithful : Faith
         sound = others .sound;
       }
 
+-- ── Lists run ──
+
+module _ {S C A : Type 0} {Steps : S → C → S → A → Type 0} (k : SomeStep Steps) where
+  calls-run : (s : S) → k .Record s → (calls : List C) → Each (k .Sent) calls → SomeRun Steps s calls
+  calls-run s h [] none = record { last = s; answers = []; run = no-call }
+  calls-run s h (c ∷ calls) (both o os) =
+      let kept = k .keeps s c h o in
+      let rest = calls-run (k .step s c .0) (kept .1) calls os in
+      record { last = rest .last; answers = k .step s c .1 ∷ rest .answers; run = one-call (kept .0) (rest .run) }
+
+  turns-run : {I : Type 0} (s : S) → k .Record s → (turns : List (I × C)) → Each (λ turn. k .Sent (turn .1)) turns → SomeRunOfTurns Steps s turns
+  turns-run s h [] none = record { last = s; answers = []; run = no-turn }
+  turns-run s h (turn ∷ turns) (both o os) =
+      let kept = k .keeps s (turn .1) h o in
+      let rest = turns-run (k .step s (turn .1) .0) (kept .1) turns os in
+      record { last = rest .last; answers = (turn .0, k .step s (turn .1) .1) ∷ rest .answers; run = one-turn (kept .0) (rest .run) }
+
 pub lists-run : {S C A : Type 0} (Steps : S → C → S → A → Type 0) → ListsRun Steps
-lists-run Steps step Record Sent keeps s h [] none = record { last = s; answers = []; run = no-call }
-lists-run Steps step Record Sent keeps s h (c ∷ calls) (both o os) =
-    let k = keeps s c h o in
-    let rest = lists-run Steps step Record Sent keeps (step s c .0) (k .1) calls os in
-    record { last = rest .last; answers = step s c .1 ∷ rest .answers; run = one-call (k .0) (rest .run) }
+lists-run Steps = record { calls = λ k. calls-run k; turns = λ k I. turns-run k }
+
+pub states-run : ListsRun (Stepped state-engine)
+states-run = lists-run (Stepped state-engine)

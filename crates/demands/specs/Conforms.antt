@@ -1,5 +1,5 @@
--- Demand 2: each call and tick gives the code, result words, queues and task states that document 01 fixes. What it fixes is the definition `step` (crate model, Step.antt); what a record means is
--- `abs` of its engine.
+-- Demand 2: each call and tick gives the code, result words, queues and task states that document 01 fixes. What it fixes is the definition `step` (crate
+-- model, Step.antt); what a record means is `abs` of its engine.
 use mathlib.Core.Path.{_≡_}
 use mathlib.Core.Bool.{true, not}
 use mathlib.Core.List.{List, _∷_}
@@ -36,7 +36,8 @@ pub record ConformsSo {S : Type 0} (E : Engine S) (s : S) (c : Call) (after : S)
   -- And else not: where no row applies, the answer is E_OK, or waits.
   pub no-error : 1 ≤ c .number → c .number ≢ 23 → Each (λ row. T (not (row .applies))) (errors E s c) → NoError (answer .outcome)
   -- Where no row applies, fetch gives the code and the word that the named task's wait ended with, which is no refusal.
-  pub fetched : c .number ≡ 23 → Each (λ row. T (not (row .applies))) (errors E s c) → FinishedWith answer (view-in E s c .the-task .code) (view-in E s c .the-task .word) 0 0
+  pub fetched : c .number ≡ 23 → Each (λ row. T (not (row .applies))) (errors E s c)
+      → FinishedWith answer (view-in E s c .the-task .code) (view-in E s c .the-task .word) 0 0
 
 abbrev pub Conforms : {S : Type 0} → Engine S → Type 0
 Conforms {S} E = (s : S) → E .Sound s → (c : Call) (after : S) (answer : Answer) → Stepped E s c after answer → ConformsSo E s c after answer

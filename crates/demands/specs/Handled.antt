@@ -1,4 +1,5 @@
--- Demand 1: any record, with any call or tick, is handled to the end. What a record that isn't sound gets, what a caller that can't call gets, what every other refusal is.
+-- Demand 1: any record, with any call or tick, is handled to the end. What a record that isn't sound gets, what a caller that can't call gets, what every other
+-- refusal is.
 use mathlib.Core.Path.{_≡_}
 use mathlib.Core.Bool.{Bool, true, false}
 use mathlib.Core.Logic.{_≢_}
@@ -10,7 +11,8 @@ use Rattle.model.specs.Errors.{caller-cannot-call, refused, refusal}
 use Rattle.model.specs.Engine.{Engine, FinishedWith, RefusedWith, Stepped}
 use Rattle.model.specs.declared.Answer.{Answer}
 use Rattle.model.specs.declared.Code.{Code}
-use Rattle.model.specs.declared.Code.the-variants.{Ok as E-OK, Sys as E-SYS, Par as E-PAR, Id as E-ID, Ctx as E-CTX, Iluse as E-ILUSE, Obj as E-OBJ, Noexs as E-NOEXS, Qovr as E-QOVR, Rlwai as E-RLWAI, Tmout as E-TMOUT, Dlt as E-DLT}
+use Rattle.model.specs.declared.Code.the-variants.{Ok as E-OK, Sys as E-SYS, Par as E-PAR, Id as E-ID, Ctx as E-CTX, Iluse as E-ILUSE, Obj as E-OBJ}
+use Rattle.model.specs.declared.Code.the-variants.{Noexs as E-NOEXS, Qovr as E-QOVR, Rlwai as E-RLWAI, Tmout as E-TMOUT, Dlt as E-DLT}
 use Rattle.model.specs.declared.Call.{Call}
 use Rattle.model.specs.declared.Outcome.the-variants.{Finished}
 
@@ -33,7 +35,8 @@ is-error E-DLT = false
 abbrev pub view-in : {S : Type 0} → Engine S → S → Call → View
 view-in E s c = view-of (E .abs s .rows) c
 
--- The record s with the call c gave `after` and the answer. (That every step ends, and does nothing undefined on its way, the checker proves of every function.)
+-- The record s with the call c gave `after` and the answer. (That every step ends, and does nothing undefined on its way, the checker proves of every
+-- function.)
 pub record HandledSo {S : Type 0} (E : Engine S) (s : S) (c : Call) (after : S) (answer : Answer) : Type 0 where
   -- A number above 23 is unknown, whatever the record is.
   pub unknown-number : call-limit < c .number → RefusedWith E-PAR s after answer
@@ -44,8 +47,10 @@ pub record HandledSo {S : Type 0} (E : Engine S) (s : S) (c : Call) (after : S) 
   -- A call to which a row of the table applies is refused with the code of the first such row, which is one of document 01's errors.
   pub refused-by-row : E .Sound s → 1 ≤ c .number → T (refused (view-in E s c) c)
       → RefusedWith (refusal (view-in E s c) c) s after answer × T (is-error (refusal (view-in E s c) c))
-  -- There is no other refusal: whatever answers a code but E_OK is refused so. Only fetch, number 23, can answer a code that isn't its own but that of an ended wait.
-  pub no-other-refusal : E .Sound s → c .number ≢ 23 → (code : Code) → answer .outcome ≡ Finished code → code ≢ E-OK → RefusedWith code s after answer × T (is-error code)
+  -- There is no other refusal: whatever answers a code but E_OK is refused so. Only fetch, number 23, can answer a code that isn't its own but that of an
+  -- ended wait.
+  pub no-other-refusal : E .Sound s → c .number ≢ 23 → (code : Code) → answer .outcome ≡ Finished code → code ≢ E-OK
+      → RefusedWith code s after answer × T (is-error code)
   -- The tick is never refused: E_OK, and one word.
   pub tick-accepted : E .Sound s → c .number ≡ 0 → FinishedWith answer E-OK (answer .a) 0 0
   -- What is handed back can be handed in again.

@@ -15,8 +15,8 @@ use Rattle.demands.specs.Runs.{Run, RunOfTurns, Interface}
 
 -- ── Two carriers ──
 
--- `Merge turns xs ys zs`: zs holds every element of both lists, each once and in its list's order; the turns say whose element stands at each position. So are the answers merged, and in document 01's
--- numbers too.
+-- `Merge turns xs ys zs`: zs holds every element of both lists, each once and in its list's order; the turns say whose element stands at each position. So the
+-- answers are merged, and in document 01's numbers too.
 pub record AnswersMerged {A : Type 0} (values-of : A → Values) (turns : List Bool) (xs ys zs : List A) : Type 0 where
   pub answers : Merge turns xs ys zs
   pub values : Merge turns (map values-of xs) (map values-of ys) (map values-of zs)
@@ -35,7 +35,8 @@ pub record Undisturbed {S C A : Type 0} (E : Engine S) (F : Interface S C A) (s 
   -- The end states are sound.
   pub end-sound : {turns : List Bool} {zs : List C} → Merge turns xs ys zs → {last : S} {answers : List A} → Run (F .Steps) s zs last answers → E .Sound last
 
--- Two carriers that have no number in common, each with any list of calls, of known number or not, refused ones too, but no tick, whose valid numbers are its own.
+-- Two carriers that have no number in common, each with any list of calls, of known number or not, refused ones too, but no tick, whose valid numbers are its
+-- own.
 pub record ListsOfTwo {C : Type 0} (call-of : C → Call) (a b : Carrier) (xs ys : List C) : Type 0 where
   pub disjoint : Disjoint a b
   pub calls-of-a : Each (λ c. CallOf (Own a) (call-of c)) xs
@@ -58,7 +59,8 @@ IsolatedFromEmpty {S} {C} {A} E F =
 
 -- ── Any number of carriers ──
 
--- `MergeOf same-owner lists turns`: the turns, each an owner with a call, hold the owners' lists, each in its own order, and nothing else. `share same-owner i` is what of the turns is owner i's.
+-- `MergeOf same-owner lists turns`: the turns, each an owner with a call, hold the owners' lists, each in its own order, and nothing else. `share same-owner i`
+-- is what of the turns is owner i's.
 pub record AllUndisturbed {I S C A : Type 0} (same-owner : Discrete I) (E : Engine S) (F : Interface S C A) (s : S) (lists : I → List C) : Type 0 where
   pub answers-alone : {turns : List (I × C)} → MergeOf same-owner lists turns
       → {last : S} {answers : List (I × A)} → RunOfTurns (F .Steps) s turns last answers
@@ -67,7 +69,8 @@ pub record AllUndisturbed {I S C A : Type 0} (same-owner : Discrete I) (E : Engi
   pub one-end : {turns turns′ : List (I × C)} → MergeOf same-owner lists turns → MergeOf same-owner lists turns′
       → {last last′ : S} {answers answers′ : List (I × A)}
       → RunOfTurns (F .Steps) s turns last answers → RunOfTurns (F .Steps) s turns′ last′ answers′ → E .Same last last′
-  pub end-sound : {turns : List (I × C)} → MergeOf same-owner lists turns → {last : S} {answers : List (I × A)} → RunOfTurns (F .Steps) s turns last answers → E .Sound last
+  pub end-sound : {turns : List (I × C)} → MergeOf same-owner lists turns → {last : S} {answers : List (I × A)}
+      → RunOfTurns (F .Steps) s turns last answers → E .Sound last
 
 -- Each number has one owner. An owner without calls need not be placed.
 abbrev pub IsolatedMany : {S C A : Type 0} → Engine S → Interface S C A → Type 1

@@ -19,7 +19,8 @@ waits-at-object a (Sending q end word) = a .queues q
 waits-at-object a (Receiving q end) = a .queues q
 waits-at-object a (AtMailbox b end) = a .mailboxes b
 
--- The rows that a carrier's calls may change: its own, and those of the tasks and messages that stand in its objects. The suspension of a task that isn't its own is not among them.
+-- The rows that a carrier's calls may change: its own, and those of the tasks and messages that stand in its objects. The suspension of a task that isn't its
+-- own is not among them.
 abbrev pub may-change : Carrier → Program.Rows Row → Key → Bool
 may-change a m (task t) = a .tasks t || waits-at-object a (m (task t) .wait)
 may-change a m (suspension t) = a .tasks t

@@ -1,4 +1,5 @@
--- Document 01, "What demand 3 compares": runs. Antt can't name a step of the code, only its contract; so what is said of every run of steps that keep the contract holds of the code's.
+-- Document 01, "What demand 3 compares": runs. Antt can't name a step of the code, only its contract; so what is said of every run whose steps keep the
+-- contract holds of the code's.
 use mathlib.Core.List.{List, [], _∷_}
 use Rattle.lists.specs.Lists.{Each}
 use Rattle.model.specs.Codes.{Values, values}
@@ -6,8 +7,9 @@ use Rattle.model.specs.Engine.{Engine, Stepped}
 use Rattle.model.specs.declared.Answer.{Answer}
 use Rattle.model.specs.declared.Call.{Call}
 
--- `Steps s c after answer` is the contract of one call: it found the record as s, handed it back or left it as `after`, and gave the answer. `Run Steps s calls last answers`: the first call gets the
--- record s, each later one the record that the call before it handed back or left; that of the last call is `last`. A call of number 0 is the tick.
+-- `Steps s c after answer` is the contract of one call: it found the record as s, handed it back or left it as `after`, and gave the answer.
+-- `Run Steps s calls last answers`: the first call gets the record s, each later one the record that the call before it handed back or left; that of the last
+-- call is `last`. A call of number 0 is the tick.
 pub data Run {S C A : Type 0} (Steps : S → C → S → A → Type 0) : S → List C → S → List A → Type 0 where
   no-call : {s : S} → Run Steps s [] s []
   one-call : {s after last : S} {c : C} {answer : A} {calls : List C} {answers : List A}
@@ -19,18 +21,30 @@ pub data RunOfTurns {I S C A : Type 0} (Steps : S → C → S → A → Type 0) 
   one-turn : {s after last : S} {i : I} {c : C} {answer : A} {turns : List (I × C)} {answers : List (I × A)}
       → Steps s c after answer → RunOfTurns Steps after turns last answers → RunOfTurns Steps s ((i, c) ∷ turns) last ((i, answer) ∷ answers)
 
+-- Runs of these calls from this record, and of these turns.
 pub record SomeRun {S C A : Type 0} (Steps : S → C → S → A → Type 0) (s : S) (calls : List C) : Type 0 where
   pub last : S
   pub answers : List A
   pub run : Run Steps s calls last answers
 
--- There are runs: a step that keeps the contract runs every list. `Record` and `Sent` say which records and calls the step is made for, as those that fit the fields of Rattle's structs; what it
+pub record SomeRunOfTurns {I S C A : Type 0} (Steps : S → C → S → A → Type 0) (s : S) (turns : List (I × C)) : Type 0 where
+  pub last : S
+  pub answers : List (I × A)
+  pub run : RunOfTurns Steps s turns last answers
+
+-- A step that keeps the contract. `Record` and `Sent` say which records and calls it is made for, as those that fit the fields of Rattle's structs; what it
 -- hands back is such a record again.
-abbrev pub ListsRun : {S C A : Type 0} → (S → C → S → A → Type 0) → Type 1
-ListsRun {S} {C} {A} Steps =
-    (step : S → C → S × A) (Record : S → Type 0) (Sent : C → Type 0)
-    → ((s : S) (c : C) → Record s → Sent c → Steps s c (step s c .0) (step s c .1) × Record (step s c .0))
-    → (s : S) → Record s → (calls : List C) → Each Sent calls → SomeRun Steps s calls
+pub record SomeStep {S C A : Type 0} (Steps : S → C → S → A → Type 0) : Type 1 where
+  pub Record : S → Type 0
+  pub Sent : C → Type 0
+  pub step : S → C → S × A
+  pub keeps : (s : S) (c : C) → Record s → Sent c → Steps s c (step s c .0) (step s c .1) × Record (step s c .0)
+
+-- There are runs: a step that keeps the contract runs every list of calls, and every list of turns.
+pub record ListsRun {S C A : Type 0} (Steps : S → C → S → A → Type 0) : Type 1 where
+  pub calls : (k : SomeStep Steps) (s : S) → k .Record s → (calls : List C) → Each (k .Sent) calls → SomeRun Steps s calls
+  pub turns : (k : SomeStep Steps) (I : Type 0) (s : S) → k .Record s → (turns : List (I × C)) → Each (λ turn. k .Sent (turn .1)) turns
+      → SomeRunOfTurns Steps s turns
 
 -- ── How calls are made ──
 

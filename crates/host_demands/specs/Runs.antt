@@ -1,4 +1,5 @@
--- Document 01, "What demand 3 compares": calls on a record that stays where it is. The first call of a run gets the starting state, each later one the state that the call before it left.
+-- Document 01, "What demand 3 compares": calls on a record that stays where it is. The first call of a run gets the starting state, each later one the state
+-- that the call before it left.
 use mathlib.Core.Path.{_≡_}
 use mathlib.Core.Bool.{cond}
 use lib.Dec.{eqb}

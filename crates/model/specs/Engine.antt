@@ -1,5 +1,5 @@
--- What a step of a record promises, whatever kind of record it is: document 01 fixes each call by the states before and after it, so of a record only its meaning and its soundness are used. A kind of
--- record with these is an engine (our own word).
+-- What a step of a record promises, whatever kind of record it is. Document 01 fixes each call by the states before and after it, so all that is used of a
+-- record is what it means and when it is sound. A kind of record with these is an engine (our own word).
 use mathlib.Core.Path.{_≡_}
 use mathlib.Core.Bool.{true, not}
 use mathlib.Core.Logic.{_↔_}
@@ -25,7 +25,8 @@ pub record Engine (S : Type 0) : Type 1 where
   pub Sound : S → Type 0
   pub Same : S → S → Type 0
 
--- What the demands' theorems use of an engine: a sound record means a well-formed state, and two sound records are equal states exactly when they mean the same.
+-- What the demands' theorems use of an engine: a sound record means a well-formed state, and two sound records are equal states exactly when they mean
+-- the same.
 pub record Lawful {S : Type 0} (E : Engine S) : Type 0 where
   pub well-formed : (s : S) → E .Sound s → WellFormed (E .abs s)
   pub equal-states : (s u : S) → E .Sound s → E .Sound u → E .Same s u ↔ (E .abs s ≡ E .abs u)
@@ -65,8 +66,8 @@ pub record RefusedWith {S : Type 0} (code : Code) (s after : S) (answer : Answer
   pub state-is : after ≡ s
   pub finished-with : FinishedWith answer code 0 0 0
 
--- Answer and state are the definition's, the answer in document 01's numbers too, and the new record is sound. A refused call hands back the very record. What else the new record holds is free; which
--- parts these are, is said where the record's meaning is.
+-- Answer and state are the definition's, the answer in document 01's numbers too, and the new record is sound. A refused call hands back the very record.
+-- What else the new record holds is free; each engine names it where its record's meaning is.
 pub record Follows {S : Type 0} (E : Engine S) (s : S) (c : Call) (after : S) (answer : Answer) : Type 0 where
   pub answer-is : answer ≡ step (E .abs s) c .answer
   pub values-are : values answer ≡ values (step (E .abs s) c .answer)
@@ -74,7 +75,8 @@ pub record Follows {S : Type 0} (E : Engine S) (s : S) (c : Call) (after : S) (a
   pub sound : E .Sound after
   pub unchanged : T (not (eqb (c .number) 0)) → T (refused (view-of (E .abs s .rows) c) c) → after ≡ s
 
--- A step of any record, sound or not, with any call, of whatever number; number 0 is the tick. The call found the record as s, handed it back or left it as `after`, and gave the answer.
+-- A step of any record, sound or not, with any call, of whatever number; number 0 is the tick. It found the record as s, handed it back or left it as `after`,
+-- and gave the answer.
 pub record Stepped {S : Type 0} (E : Engine S) (s : S) (c : Call) (after : S) (answer : Answer) : Type 0 where
   pub unknown : call-limit < c .number → RefusedWith E-PAR s after answer
   pub unsound : c .number ≤ call-limit → (E .Sound s → ⊥) → RefusedWith E-SYS s after answer

@@ -1,4 +1,5 @@
--- Document 01, "The kernel part we mean" (each core step takes the whole state and hands it back): what a step of the record `State` promises (crate model, Engine.antt).
+-- Document 01, "The kernel part we mean" (each core step takes the whole state and hands it back): what a step of a `State` promises is what a step of any
+-- engine's record does (crate model, Engine.antt).
 use Prim.Native.Nat.{ℕ}
 use Rattle.rows.specs.Program as Program
 use Rattle.model.specs.Rows.{Row, Environment, Effect}
