@@ -49,7 +49,7 @@ no-tick n h = not-T (eqb n 0) (λ t. let e = eqb→eq n 0 t in omega arith)
 module _ {S : Type 0} {E : Engine S} {s after : S} {c : Call} {answer : Answer} (h : Stepped E s c after answer) (sound : E .Sound s) where
   unknown-follows : call-limit < c .number → Follows E s c after answer
   unknown-follows above =
-      let v = view-of (E .abs s .rows) c in
+      let v = view-of (E .abs s) c in
       let e = h .unknown above in
       let by-row = refusals (E .abs s) c (no-tick (c .number) (omega arith)) .by-row (unknown-refused v c above) in
       let answered : answer ≡ step (E .abs s) c .answer =

@@ -33,7 +33,7 @@ is-error E-DLT = false
 
 -- What the call has in view in this record.
 abbrev pub view-in : {S : Type 0} → Engine S → S → Call → View
-view-in E s c = view-of (E .abs s .rows) c
+view-in E s c = view-of (E .abs s) c
 
 -- The record s with the call c gave `after` and the answer. (That every step ends, and does nothing undefined on its way, the checker proves of every
 -- function.)

@@ -48,11 +48,11 @@ pub record Does {S : Type 0} (E : Engine S) (p : Effect) (s after : S) (answer :
 pub record Accepted {S : Type 0} (E : Engine S) (n : ℕ) (s : S) (c : Call) : Type 0 where
   pub sound : E .Sound s
   pub number-is : c .number ≡ n
-  pub accepted : T (not (refused (view-of (E .abs s .rows) c) c))
+  pub accepted : T (not (refused (view-of (E .abs s) c) c))
 
 -- The step does what the definition of this call says.
 abbrev pub Performs : {S : Type 0} → Engine S → (Environment → View → Call → Effect) → S → Call → S → Answer → Type 0
-Performs E f s c after answer = Does E (f (E .abs s .environment) (view-of (E .abs s .rows) c) c) s after answer
+Performs E f s c after answer = Does E (f (E .abs s .environment) (view-of (E .abs s) c) c) s after answer
 
 -- ── Any record, with any call or tick ──
 
@@ -73,7 +73,7 @@ pub record Follows {S : Type 0} (E : Engine S) (s : S) (c : Call) (after : S) (a
   pub values-are : values answer ≡ values (step (E .abs s) c .answer)
   pub meaning-is : E .abs after ≡ step (E .abs s) c .state
   pub sound : E .Sound after
-  pub unchanged : T (not (eqb (c .number) 0)) → T (refused (view-of (E .abs s .rows) c) c) → after ≡ s
+  pub unchanged : T (not (eqb (c .number) 0)) → T (refused (view-of (E .abs s) c) c) → after ≡ s
 
 -- A step of any record, sound or not, with any call, of whatever number; number 0 is the tick. It found the record as s, handed it back or left it as `after`,
 -- and gave the answer.
