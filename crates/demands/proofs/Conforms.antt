@@ -14,13 +14,12 @@ use Rattle.model.specs.Errors.{ErrorRow, some-applies, first-that-applies, refu
 use Rattle.model.specs.Step.{no-call, effects, effect, step}
 use Rattle.model.specs.Engine.{Engine, Lawful, RefusedWith}
 use Rattle.model.specs.declared.Call.{Call}
-use Rattle.model.proofs.Tests.{or-left}
+use Rattle.model.proofs.Tests.{or-left, or-right}
 use Rattle.model.proofs.Choices.{cond-yes, cond-no}
 use Rattle.model.proofs.Step.{step-call, run-accepted}
 use Rattle.record.specs.Step.{state-engine}
 use Rattle.record.proofs.Equal.{state-lawful}
 use Rattle.demands.specs.Conforms.{FirstToApply, applies, earlier-passed, Conforms, Settled}
-use Rattle.demands.proofs.Tests.{or-right}
 use Rattle.demands.proofs.Runs.{no-tick, follows}
 use Rattle.demands.proofs.Handled.{refused-step, no-error}
 

@@ -1,41 +1,40 @@
--- Demand 1: the table's first row that applies, read off the table; that the tick answers E_OK, by running it.
+-- Demand 1: the table's first row that applies, read off the table; what the tick answers, from the definition (crate model).
 use mathlib.Core.Path.{_≡_, refl, sym, _∙_, ap, subst}
 use mathlib.Core.Bool.{Bool, true, false, not, cond, _||_}
-use mathlib.Core.List.{List, [], _∷_}
+use mathlib.Core.List.{List}
 use mathlib.Core.Logic.{_≢_}
-use Prim.Native.Nat.{ℕ, suc, _≤_, _+_, _%_}
+use Prim.Native.Nat.{_≤_}
 use native.Mathlib.Omega.{arith}
 use native.Mathlib.Decide.{ℕ-discrete}
-use lib.Dec.{T, T-not, not-T, eqb, eqb-refl, eqb→eq}
-use Rattle.lists.specs.Lists.{Each, none, both, ascending}
+use lib.Dec.{T, not-T, eqb, eqb-refl, eqb→eq}
+use lib.ListN.{length}
+use mir.Facts.{no-ltb}
+use Rattle.lists.specs.Lists.{Each, none, both, every}
+use Rattle.lists.proofs.Each.{each-of-every}
 use Rattle.rows.specs.Program as Program
-use Rattle.model.specs.Sizes.{call-limit, task-limit, counter-span, within}
-use Rattle.model.specs.Rows.{Row, Effect, Model}
+use Rattle.model.specs.Sizes.{call-limit}
+use Rattle.model.specs.Rows.{Model}
 use Rattle.model.specs.Codes.{values, finished}
 use Rattle.model.specs.Calls.{View}
-use Rattle.model.specs.Errors.{unknown, caller-cannot-call, ErrorRow, error-table, some-applies, first-that-applies, refused, refusal}
-use Rattle.model.specs.WaitQueues.{take-out, end-wait}
-use Rattle.model.specs.Tasks.{expire, tick}
+use Rattle.model.specs.Errors.{unknown, caller-cannot-call, ErrorRow, rows-to-step-4, rows-from-step-5, error-table, some-applies, first-that-applies, refused, refusal}
 use Rattle.model.specs.Step.{step}
 use Rattle.model.specs.Refusals.{NoError}
-use Rattle.model.specs.Engine.{Engine, RefusedWith, Stepped}
+use Rattle.model.specs.Endings.{ended-waits}
+use Rattle.model.specs.Engine.{Engine, Lawful, RefusedWith, Stepped}
 use Rattle.model.specs.declared.Answer.{Answer}
 use Rattle.model.specs.declared.Call.{Call}
 use Rattle.model.specs.declared.Code.{Code}
-use Rattle.model.specs.declared.Code.the-variants.{Ok as E-OK, Sys as E-SYS, Tmout as E-TMOUT}
+use Rattle.model.specs.declared.Code.the-variants.{Ok as E-OK, Sys as E-SYS}
 use Rattle.model.specs.declared.Outcome.{Outcome}
 use Rattle.model.specs.declared.Outcome.the-variants.{Finished, Waits}
-use Rattle.model.specs.declared.Wait.{Wait}
-use Rattle.model.specs.declared.Wait.the-variants.{NoWait, Sending, Receiving, AtMailbox}
-use Rattle.model.proofs.Tests.{or-left, to-within}
+use Rattle.model.proofs.Tests.{or-left, or-right}
 use Rattle.model.proofs.Choices.{cond-yes, cond-no}
-use Rattle.model.proofs.Step.{step-tick}
 use Rattle.model.proofs.Refusals.{refusals}
-use Rattle.model.proofs.After.{After, after-return, after-get, after-put, after-if}
+use Rattle.model.proofs.Endings.{tick-counts-ends}
 use Rattle.record.specs.Step.{state-engine}
+use Rattle.record.proofs.Equal.{state-lawful}
 use Rattle.record.proofs.Rows.{passes-or-not}
 use Rattle.demands.specs.Handled.{is-error, view-in, Handled}
-use Rattle.demands.proofs.Tests.{or-right}
 use Rattle.demands.proofs.Runs.{no-tick, follows}
 
 -- ── The table ──
@@ -52,50 +51,21 @@ first-is-error (both {x = row} {xs = rows} e es) t = go (row .applies) (λ u. fi
 
 module _ (v : View) (c : Call) where
   pub refusal-is-error : T (refused v c) → T (is-error (refusal v c))
-  unfolding refused refusal error-table
-  refusal-is-error t = first-is-error (both tt (both tt (both tt (both tt (both tt (both tt (both tt (both tt (both tt (both tt (both tt (both tt none)))))))))))) t
+  unfolding refused refusal error-table rows-to-step-4 rows-from-step-5 every
+  refusal-is-error t = first-is-error (each-of-every (λ row. is-error (row .code)) (error-table v c) tt) t
 
-  -- A known number, and a caller that can't call: the third row is the first that applies.
-  known : 1 ≤ c .number → c .number ≤ call-limit → T (not (unknown c))
+  -- A known number, and a caller that can't call: the second row is the first that applies.
+  known : c .number ≤ call-limit → T (not (unknown c))
   unfolding unknown
-  known low high = not-T (not (within 1 call-limit (c .number))) (λ n. T-not (within 1 call-limit (c .number)) n (to-within 1 call-limit (c .number) low high))
+  known high = no-ltb high
 
-  caller-refused : T (caller-cannot-call v c) → T (refused v c)
-  unfolding refused error-table some-applies
-  caller-refused t = or-right (unknown c) _ (or-left (caller-cannot-call v c) _ t)
+  caller-refused : T (caller-cannot-call (v .caller) c) → T (refused v c)
+  unfolding refused error-table rows-to-step-4 some-applies
+  caller-refused t = or-right (unknown c) _ (or-left (caller-cannot-call (v .caller) c) _ t)
 
-  caller-refusal : T (not (unknown c)) → T (caller-cannot-call v c) → refusal v c ≡ E-SYS
-  unfolding refusal error-table first-that-applies
-  caller-refusal k t = cond-no (unknown c) _ _ k ∙ cond-yes (caller-cannot-call v c) _ _ t
-
--- ── The tick ──
-
-abbrev SaysOk : Program.Rows Row → Answer → Type 0
-SaysOk m a = a ≡ finished E-OK (a .a) 0 0
-
--- Whatever ends a wait leaves the answer to the rest.
-module _ {Q : Program.Rows Row → Answer → Type 0} (p : Effect) (always : (m : Program.Rows Row) → After Q p m) where
-  past-take-out : (t : ℕ) (w : Wait) (m : Program.Rows Row) → After Q (take-out t w p) m
-  unfolding take-out
-  past-take-out t NoWait m = always m
-  past-take-out t (Sending q end word) m = after-get (after-put (always _))
-  past-take-out t (Receiving q end) m = after-get (after-put (always _))
-  past-take-out t (AtMailbox b end) m = after-get (after-put (always _))
-
-past-end-wait : {Q : Program.Rows Row → Answer → Type 0} (t : ℕ) (code : Code) (p : Effect) (m : Program.Rows Row) → ((n : Program.Rows Row) → After Q p n) → After Q (end-wait t code p) m
-unfolding end-wait
-past-end-wait t code p m always = after-get (past-take-out _ (λ n. after-put (always _)) t _ m)
-
-expire-says-ok : (counter : ℕ) (ts : List ℕ) (n : ℕ) (m : Program.Rows Row) → After SaysOk (expire counter ts n) m
-unfolding expire
-expire-says-ok counter [] n m = after-return refl
-expire-says-ok counter (t ∷ ts) n m = after-get (after-if
-    (λ d. past-end-wait t E-TMOUT (expire counter ts (suc n)) m (λ o. expire-says-ok counter ts (suc n) o))
-    (λ d. expire-says-ok counter ts n m))
-
-tick-says-ok : (m : Model) → SaysOk (m .rows) (tick m .answer)
-unfolding tick
-tick-says-ok m = expire-says-ok ((m .environment .counter + 1) % counter-span) (ascending 1 task-limit) 0 (m .rows) .holds
+  caller-refusal : T (not (unknown c)) → T (caller-cannot-call (v .caller) c) → refusal v c ≡ E-SYS
+  unfolding refusal error-table rows-to-step-4 first-that-applies
+  caller-refusal k t = cond-no (unknown c) _ _ k ∙ cond-yes (caller-cannot-call (v .caller) c) _ _ t
 
 -- ── Every call ──
 
@@ -107,18 +77,19 @@ module _ {S : Type 0} {E : Engine S} {s after : S} {c : Call} {answer : Answer} 
       let given : answer ≡ finished (refusal (view-in E s c) c) 0 0 0 = f .answer-is ∙ ap (λ (o : Program.Result Model Answer). o .answer) (refusals (E .abs s) c not-tick .by-row t) in
       record { state-is = f .unchanged not-tick t; finished-with = record { answer-is = given; values-are = ap values given } }
 
-  tick-step : c .number ≡ 0 → answer ≡ finished E-OK (answer .a) 0 0
-  tick-step e =
-      rw (follows h sound .answer-is, step-tick (E .abs s) c (subst (λ n. T (eqb n 0)) (sym e) (eqb-refl 0)))
-      (tick-says-ok (E .abs s))
+  tick-step : Lawful E → c .number ≡ 0 → answer ≡ finished E-OK (length (ended-waits (E .abs s .rows) (E .abs after .rows))) 0 0
+  tick-step laws e =
+      let f = follows h sound in
+      f .answer-is ∙ (tick-counts-ends (E .abs s) c (laws .well-formed s sound) (subst (λ n. T (eqb n 0)) (sym e) (eqb-refl 0))
+      ∙ ap (λ (m : Model). finished E-OK (length (ended-waits (E .abs s .rows) (m .rows))) 0 0) (sym (f .meaning-is)))
 
   pub no-error : 1 ≤ c .number → c .number ≢ 23 → T (not (refused (view-in E s c) c)) → NoError (answer .outcome)
   no-error low other t = rw (follows h sound .answer-is) (refusals (E .abs s) c (no-tick (c .number) low) .else-no-error t (not-T (eqb (c .number) 23) (λ u. other (eqb→eq (c .number) 23 u))))
 
   -- Where no row applies there is no error, and the tick answers none.
-  other-step : c .number ≢ 23 → (code : Code) → answer .outcome ≡ Finished code → code ≢ E-OK → RefusedWith code s after answer × T (is-error code)
-  other-step other code e fault = elim (ℕ-discrete (c .number) 0) [
-    | yes zero ↦ absurd (fault (ok code e (ap (λ (x : Answer). x .outcome) (tick-step zero))))
+  other-step : Lawful E → c .number ≢ 23 → (code : Code) → answer .outcome ≡ Finished code → code ≢ E-OK → RefusedWith code s after answer × T (is-error code)
+  other-step laws other code e fault = elim (ℕ-discrete (c .number) 0) [
+    | yes zero ↦ absurd (fault (ok code e (ap (λ (x : Answer). x .outcome) (tick-step laws zero))))
     | no n ↦ passes-or-not (refused v c) (by-row (omega arith)) (λ t. absurd (fault (ok-code code (answer .outcome) e (no-error (omega arith) other t))))
   ]
     where
@@ -138,18 +109,18 @@ module _ {S : Type 0} {E : Engine S} {s after : S} {c : Call} {answer : Answer} 
           let same : refusal v c ≡ code = cc (ap (λ (x : Answer). x .outcome) (step .finished-with .answer-is)) in
           subst (λ d. RefusedWith d s after answer × T (is-error d)) same (step, refusal-is-error v c t)
 
-pub handled : {S : Type 0} (E : Engine S) → Handled E
-handled E s c after answer h = record {
+pub handled : {S : Type 0} (E : Engine S) → Lawful E → Handled E
+handled E laws s c after answer h = record {
   unknown-number = h .unknown;
   not-sound = h .unsound;
   cannot-call = λ sound low high t.
       let v = view-in E s c in
-      subst (λ code. RefusedWith code s after answer) (caller-refusal v c (known v c low high) t) (refused-step h sound low (caller-refused v c t));
+      subst (λ code. RefusedWith code s after answer) (caller-refusal v c (known v c high) t) (refused-step h sound low (caller-refused v c t));
   refused-by-row = λ sound low t. (refused-step h sound low t, refusal-is-error (view-in E s c) c t);
-  no-other-refusal = λ sound other code e fault. other-step h sound other code e fault;
-  tick-accepted = λ sound e. let given = tick-step h sound e in record { answer-is = given; values-are = ap values given };
+  no-other-refusal = λ sound other code e fault. other-step h sound laws other code e fault;
+  tick-accepted = λ sound e. let given = tick-step h sound laws e in record { answer-is = given; values-are = ap values given };
   stays-sound = λ sound. follows h sound .sound;
 }
 
 pub states-handled : Handled state-engine
-states-handled = handled state-engine
+states-handled = handled state-engine state-lawful

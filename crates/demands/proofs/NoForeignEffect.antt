@@ -1,6 +1,7 @@
 -- A carrier's call leaves other rows alone: what it may change is closed, in that its rows name nothing outside, and a call stays within a closed set that has the rows it names.
 use mathlib.Core.Path.{_≡_, refl, sym, _∙_, subst}
-use mathlib.Core.Bool.{Bool, not, _&&_, _||_}
+use mathlib.Core.Option.{Option, none as nowhere, some, Option·map, Option·getD}
+use mathlib.Core.Bool.{Bool, false, not, _&&_, _||_}
 use mathlib.Core.List.{List}
 use mathlib.Core.Logic.{⊎-elim}
 use Prim.Native.Nat.{ℕ}
@@ -8,17 +9,18 @@ use lib.Dec.{T, T-not, eqb}
 use mir.Facts.{and-yes, yes-and, or-yes}
 use Rattle.lists.specs.Lists.{Each, none, both}
 use Rattle.lists.proofs.Each.{each-map}
+use Rattle.lists.specs.Options.{IfSome}
 use Rattle.rows.specs.Program as Program
 use Rattle.rows.specs.Program.{step-of}
 use Rattle.rows.proofs.Footprint.{Closed, keeps-closed, outside}
 use Rattle.model.specs.Rows.{Key, task, suspension, queue, mailbox, message, same-key, Row, Model}
+use Rattle.model.specs.Waits.{WaitQueue, object-of, wait-queue, object-named}
 use Rattle.model.specs.Step.{program, step}
 use Rattle.model.specs.Engine.{Engine, Lawful}
-use Rattle.model.specs.Isolation.{WaitsAt, QueuedAt, Linked, WaitsIn, QueuedIn, Placed, CallOf, Carrier, Own, Disjoint}
+use Rattle.model.specs.Isolation.{WaitsAt, QueuedAt, Linked, QueuedIn, Placed, CallOf, Carrier, owns, Own, Disjoint}
 use Rattle.model.specs.declared.Call.{Call}
 use Rattle.model.specs.declared.Wait.{Wait}
-use Rattle.model.specs.declared.Wait.the-variants.{NoWait, Sending, Receiving, AtMailbox}
-use Rattle.model.proofs.Tests.{or-left}
+use Rattle.model.proofs.Tests.{or-left, or-right}
 use Rattle.model.proofs.Step.{step-call}
 use Rattle.model.proofs.Footprints.{NamedIn, in-program}
 use Rattle.model.proofs.WellFormed.{well-formed-linked}
@@ -26,7 +28,6 @@ use Rattle.record.specs.Step.{state-engine}
 use Rattle.record.proofs.Equal.{state-lawful}
 use Rattle.demands.specs.NoForeignEffect.{waits-at-object, may-change, NoForeignEffect}
 use Rattle.demands.specs.Runs.{Run, no-call, one-call, Interface, by-value}
-use Rattle.demands.proofs.Tests.{or-right}
 use Rattle.demands.proofs.Runs.{follows, Faithful, by-value-faithful}
 
 -- ── What may change is closed ──
@@ -42,17 +43,16 @@ module _ (a : Carrier) (m : Program.Rows Row) where
   own-may-change (mailbox n) t = t
   own-may-change (message n) t = or-left (a .messages n) _ t
 
-  object-of-wait : (own : Bool) (w : Wait) → (T own → WaitsIn (Own a) w) → T (own || waits-at-object a w) → WaitsIn MayChange w
-  object-of-wait own NoWait p t = tt
-  object-of-wait own (Sending q end word) p t = ⊎-elim p (λ u. u) (or-yes own (a .queues q) t)
-  object-of-wait own (Receiving q end) p t = ⊎-elim p (λ u. u) (or-yes own (a .queues q) t)
-  object-of-wait own (AtMailbox b end) p t = ⊎-elim p (λ u. u) (or-yes own (a .mailboxes b) t)
+  own-may : (x : WaitQueue) → Own a (object-of x) → MayChange (object-of x)
+  own-may x t = own-may-change (object-of x) t
+
+  object-of-wait : (own : Bool) (x : Option WaitQueue) → (T own → IfSome (Own a) (Option·map object-of x)) → T (own || Option·getD (Option·map (owns a) (Option·map object-of x)) false)
+      → IfSome MayChange (Option·map object-of x)
+  object-of-wait own nowhere p t = tt
+  object-of-wait own (some x) p t = ⊎-elim (λ u. own-may x (p u)) (own-may x) (or-yes own (owns a (object-of x)) t)
 
   waits-at-own : (k : Key) (w : Wait) → Own a k → WaitsAt k w → T (waits-at-object a w)
-  waits-at-own k NoWait o e = absurd e
-  waits-at-own k (Sending q end word) o e = subst (Own a) (sym e) o
-  waits-at-own k (Receiving q end) o e = subst (Own a) (sym e) o
-  waits-at-own k (AtMailbox b end) o e = subst (Own a) (sym e) o
+  waits-at-own k w o e = subst (λ (x : Option Key). T (Option·getD (Option·map (owns a) x) false)) (sym e) o
 
   standing : (k : Key) → Own a k → (t : ℕ) → WaitsAt k (m (task t) .wait) → MayChange (task t)
   standing k o t e = or-right (a .tasks t) _ (waits-at-own k (m (task t) .wait) o e)
@@ -63,7 +63,7 @@ module _ (a : Carrier) (m : Program.Rows Row) where
 
   closed : Linked m → Placed (Own a) m → Closed NamedIn MayChange m
   unfolding QueuedIn
-  closed l p (task n) t = object-of-wait (a .tasks n) (m (task n) .wait) (p .tasks n) t
+  closed l p (task n) t = object-of-wait (a .tasks n) (wait-queue (m (task n) .wait)) (p .tasks n) t
   closed l p (suspension n) t = tt
   closed l p (queue n) t = (each-map (standing (queue n) t) (l .senders n), each-map (standing (queue n) t) (l .receivers n))
   closed l p (mailbox n) t = (each-map (standing (mailbox n) t) (l .waiters n), each-map (queued n t) (l .messages n))
@@ -74,15 +74,13 @@ module _ (a : Carrier) (m : Program.Rows Row) where
 -- ── Another carrier's rows are not among it ──
 
 module _ (a b : Carrier) (apart : Disjoint a b) where
-  other-object : (w : Wait) → WaitsIn (Own b) w → T (waits-at-object a w) → ⊥
-  other-object NoWait h t = t
-  other-object (Sending q end word) h t = apart (queue q) t h
-  other-object (Receiving q end) h t = apart (queue q) t h
-  other-object (AtMailbox x end) h t = apart (mailbox x) t h
+  other-object : (x : Option Key) → IfSome (Own b) x → T (Option·getD (Option·map (owns a) x) false) → ⊥
+  other-object nowhere h t = t
+  other-object (some k) h t = apart k t h
 
   other : (m : Program.Rows Row) → Placed (Own b) m → (k : Key) → Own b k → T (may-change a m k) → ⊥
   unfolding QueuedIn
-  other m p (task n) o t = ⊎-elim (λ u. apart (task n) u o) (other-object (m (task n) .wait) (p .tasks n o)) (or-yes (a .tasks n) _ t)
+  other m p (task n) o t = ⊎-elim (λ u. apart (task n) u o) (other-object (object-named (m (task n) .wait)) (p .tasks n o)) (or-yes (a .tasks n) _ t)
   other m p (suspension n) o t = apart (suspension n) t o
   other m p (queue n) o t = apart (queue n) t o
   other m p (mailbox n) o t = apart (mailbox n) t o

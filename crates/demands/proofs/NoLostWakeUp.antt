@@ -21,7 +21,7 @@ unfolding empty
 not-empty {l = []} i = absurd (List·Memᴰ·not-nil i)
 not-empty {l = x ∷ l} i = tt
 
-nobody-waits : {counter : ℕ} {soonest : ℕ → ℕ} {m : Program.Rows Row} → WellFormedRows counter soonest m → NobodyWaitsForWhatIsThere m
+nobody-waits : {m : Program.Rows Row} → WellFormedRows m → NobodyWaitsForWhatIsThere m
 nobody-waits w = record {
   receivers = λ t q i. w .queues q .receivers (not-empty i);
   senders = λ t q i. w .queues q .senders (not-empty i);

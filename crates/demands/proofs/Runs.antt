@@ -1,12 +1,11 @@
 -- A step of a sound record follows the definition, whatever the call's number; so does a run, however its calls are made; and lists run: by induction on the run.
 use mathlib.Core.Path.{_≡_, refl, sym, ap, _∙_, subst}
-use mathlib.Core.Bool.{Bool, true, false, not, _&&_}
+use mathlib.Core.Bool.{not}
 use mathlib.Core.List.{List, [], _∷_, map}
 use Prim.Native.Nat.{ℕ, _≤_, _<_}
 use native.Mathlib.Omega.{arith}
 use native.Mathlib.Decide.{decLt}
-use lib.Dec.{T, eqb, leb, not-T, eqb→eq}
-use borrow.Author.Tests.{lt-leb}
+use lib.Dec.{T, eqb, not-T, eqb→eq, lt→ltb}
 use Rattle.lists.specs.Lists.{Each, none, both}
 use Rattle.rows.specs.Program as Program
 use Rattle.rows.specs.Runs.{end, answers}
@@ -15,32 +14,30 @@ use Rattle.model.specs.Sizes.{call-limit}
 use Rattle.model.specs.Rows.{Model}
 use Rattle.model.specs.Codes.{values, finished}
 use Rattle.model.specs.Calls.{View, view-of}
-use Rattle.model.specs.Errors.{unknown, error-table, some-applies, first-that-applies, refused, refusal}
+use Rattle.model.specs.Errors.{unknown, rows-to-step-4, error-table, some-applies, first-that-applies, refused, refusal}
 use Rattle.model.specs.Step.{step}
 use Rattle.model.specs.Engine.{Engine, Follows, Stepped, SteppedAs}
 use Rattle.model.specs.declared.Answer.{Answer}
 use Rattle.model.specs.declared.Call.{Call}
 use Rattle.model.specs.declared.Code.the-variants.{Par as E-PAR}
+use Rattle.model.proofs.Tests.{or-left}
+use Rattle.model.proofs.Choices.{cond-yes}
 use Rattle.model.proofs.Refusals.{refusals}
 use Rattle.record.specs.Step.{state-engine}
 use Rattle.demands.specs.Runs.{Run, no-call, one-call, RunOfTurns, no-turn, one-turn, SomeRun, SomeRunOfTurns, SomeStep, ListsRun, Interface, by-value}
 
 -- A number above 23 is unknown: the first row of the table applies.
-is-unknown : (c : Call) → call-limit < c .number → unknown c ≡ true
+is-unknown : (c : Call) → call-limit < c .number → T (unknown c)
 unfolding unknown
-is-unknown c h = go (leb 1 (c .number)) (leb (c .number) call-limit) (lt-leb (c .number) call-limit h)
-  where
-    go : (a b : Bool) → b ≡ false → not (a && b) ≡ true
-    go true b e = rw e
-    go false b e = refl
+is-unknown c h = lt→ltb call-limit (c .number) h
 
 pub unknown-refused : (v : View) (c : Call) → call-limit < c .number → T (refused v c)
-unfolding refused error-table some-applies
-unknown-refused v c h = rw (is-unknown c h) tt
+unfolding refused error-table rows-to-step-4 some-applies
+unknown-refused v c h = or-left (unknown c) _ (is-unknown c h)
 
 pub unknown-refusal : (v : View) (c : Call) → call-limit < c .number → refusal v c ≡ E-PAR
-unfolding refusal error-table first-that-applies
-unknown-refusal v c h = rw (is-unknown c h) refl
+unfolding refusal error-table rows-to-step-4 first-that-applies
+unknown-refusal v c h = cond-yes (unknown c) _ _ (is-unknown c h)
 
 -- A number that isn't 0 is not the tick's.
 pub no-tick : (n : ℕ) → 1 ≤ n → T (not (eqb n 0))

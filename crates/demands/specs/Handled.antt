@@ -1,35 +1,28 @@
 -- Demand 1: any record, with any call or tick, is handled to the end. What a record that isn't sound gets, what a caller that can't call gets, what every other
 -- refusal is.
 use mathlib.Core.Path.{_≡_}
-use mathlib.Core.Bool.{Bool, true, false}
+use mathlib.Core.Bool.{Bool}
+use mathlib.Core.List.{[], _∷_}
 use mathlib.Core.Logic.{_≢_}
 use Prim.Native.Nat.{_<_, _≤_}
 use lib.Dec.{T}
+use lib.ListN.{length}
 use Rattle.model.specs.Sizes.{call-limit}
+use Rattle.model.specs.Codes.{code-in}
 use Rattle.model.specs.Calls.{View, view-of}
 use Rattle.model.specs.Errors.{caller-cannot-call, refused, refusal}
+use Rattle.model.specs.Endings.{ended-waits}
 use Rattle.model.specs.Engine.{Engine, FinishedWith, RefusedWith, Stepped}
 use Rattle.model.specs.declared.Answer.{Answer}
 use Rattle.model.specs.declared.Code.{Code}
 use Rattle.model.specs.declared.Code.the-variants.{Ok as E-OK, Sys as E-SYS, Par as E-PAR, Id as E-ID, Ctx as E-CTX, Iluse as E-ILUSE, Obj as E-OBJ}
-use Rattle.model.specs.declared.Code.the-variants.{Noexs as E-NOEXS, Qovr as E-QOVR, Rlwai as E-RLWAI, Tmout as E-TMOUT, Dlt as E-DLT}
+use Rattle.model.specs.declared.Code.the-variants.{Noexs as E-NOEXS, Qovr as E-QOVR, Tmout as E-TMOUT}
 use Rattle.model.specs.declared.Call.{Call}
 use Rattle.model.specs.declared.Outcome.the-variants.{Finished}
 
 -- Document 01's errors: the codes in its table of error numbers.
 abbrev pub is-error : Code → Bool
-is-error E-OK = false
-is-error E-SYS = true
-is-error E-PAR = true
-is-error E-ID = true
-is-error E-CTX = true
-is-error E-ILUSE = true
-is-error E-OBJ = true
-is-error E-NOEXS = true
-is-error E-QOVR = true
-is-error E-RLWAI = false
-is-error E-TMOUT = true
-is-error E-DLT = false
+is-error code = code-in code (E-PAR ∷ E-SYS ∷ E-CTX ∷ E-ID ∷ E-NOEXS ∷ E-OBJ ∷ E-QOVR ∷ E-ILUSE ∷ E-TMOUT ∷ [])
 
 -- What the call has in view in this record.
 abbrev pub view-in : {S : Type 0} → Engine S → S → Call → View
@@ -43,7 +36,7 @@ pub record HandledSo {S : Type 0} (E : Engine S) (s : S) (c : Call) (after : S) 
   -- Where the number is known, a record that isn't sound gets E_SYS; with the tick too.
   pub not-sound : c .number ≤ call-limit → (E .Sound s → ⊥) → RefusedWith E-SYS s after answer
   -- So does a caller that can't call. The tick, number 0, has no caller.
-  pub cannot-call : E .Sound s → 1 ≤ c .number → c .number ≤ call-limit → T (caller-cannot-call (view-in E s c) c) → RefusedWith E-SYS s after answer
+  pub cannot-call : E .Sound s → 1 ≤ c .number → c .number ≤ call-limit → T (caller-cannot-call (view-in E s c .caller) c) → RefusedWith E-SYS s after answer
   -- A call to which a row of the table applies is refused with the code of the first such row, which is one of document 01's errors.
   pub refused-by-row : E .Sound s → 1 ≤ c .number → T (refused (view-in E s c) c)
       → RefusedWith (refusal (view-in E s c) c) s after answer × T (is-error (refusal (view-in E s c) c))
@@ -51,8 +44,8 @@ pub record HandledSo {S : Type 0} (E : Engine S) (s : S) (c : Call) (after : S) 
   -- ended wait.
   pub no-other-refusal : E .Sound s → c .number ≢ 23 → (code : Code) → answer .outcome ≡ Finished code → code ≢ E-OK
       → RefusedWith code s after answer × T (is-error code)
-  -- The tick is never refused: E_OK, and one word.
-  pub tick-accepted : E .Sound s → c .number ≡ 0 → FinishedWith answer E-OK (answer .a) 0 0
+  -- The tick is never refused: E_OK, and a is how many waits ended in it.
+  pub tick-accepted : E .Sound s → c .number ≡ 0 → FinishedWith answer E-OK (length (ended-waits (E .abs s .rows) (E .abs after .rows))) 0 0
   -- What is handed back can be handed in again.
   pub stays-sound : E .Sound s → E .Sound after
 

@@ -2,22 +2,20 @@
 use mathlib.Core.Path.{_≡_}
 use mathlib.Core.Bool.{Bool, false, not, _&&_, _||_}
 use mathlib.Core.List.{List}
+use mathlib.Core.Option.{Option·map, Option·getD}
 use lib.Dec.{T, eqb}
 use Rattle.lists.specs.Lists.{Each}
 use Rattle.rows.specs.Program as Program
 use Rattle.model.specs.Rows.{Key, task, suspension, queue, mailbox, message, Row}
+use Rattle.model.specs.Waits.{object-named}
 use Rattle.model.specs.Engine.{Engine}
-use Rattle.model.specs.Isolation.{Placed, CallOf, Carrier, Own, Disjoint}
+use Rattle.model.specs.Isolation.{Placed, CallOf, Carrier, owns, Own, Disjoint}
 use Rattle.model.specs.declared.Wait.{Wait}
-use Rattle.model.specs.declared.Wait.the-variants.{NoWait, Sending, Receiving, AtMailbox}
 use Rattle.demands.specs.Runs.{Run, Interface}
 
 -- Whether a task with this wait waits at one of the carrier's objects.
 abbrev pub waits-at-object : Carrier → Wait → Bool
-waits-at-object a NoWait = false
-waits-at-object a (Sending q end word) = a .queues q
-waits-at-object a (Receiving q end) = a .queues q
-waits-at-object a (AtMailbox b end) = a .mailboxes b
+waits-at-object a w = Option·getD (Option·map (owns a) (object-named w)) false
 
 -- The rows that a carrier's calls may change: its own, and those of the tasks and messages that stand in its objects. The suspension of a task that isn't its
 -- own is not among them.
