@@ -82,7 +82,7 @@ pub record Stepped {S : Type 0} (E : Engine S) (s : S) (c : Call) (after : S) (a
   pub unsound : c .number ≤ call-limit → (E .Sound s → ⊥) → RefusedWith E-SYS s after answer
   pub sound : c .number ≤ call-limit → E .Sound s → Follows E s c after answer
 
--- The same with the call and the answer written otherwise, as hosts write them: `call-of` says which call is meant, `answer-of` how an answer is written.
+-- The same with the call and the answer written otherwise, as in numbers alone: `call-of` says which call is meant, `answer-of` how an answer is written.
 pub record SteppedAs {S C A : Type 0} (E : Engine S) (call-of : C → Call) (answer-of : Answer → A) (s : S) (c : C) (after : S) (given : A) : Type 0 where
   pub answer : Answer
   pub stepped : Stepped E s (call-of c) after answer
