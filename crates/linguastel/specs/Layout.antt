@@ -1,4 +1,5 @@
--- How many bytes the record takes in a host's memory, part by part, as C lays its structs out: each number at a multiple of its own size, each struct filled up to a multiple of its largest number's.
+-- How many bytes the record takes in a host's memory, part by part, as C lays its structs out: each number at a multiple of its own size, each struct filled up
+-- to a multiple of its largest number's.
 use Prim.Native.Nat.{ℕ, _+_, _*_}
 
 -- Three words and five bytes, three bytes of filling.

@@ -23,7 +23,7 @@ use Rattle.rows.specs.Runs.{end}
 use Rattle.model.specs.Sizes.{task-limit, counter-span}
 use Rattle.model.specs.Rows.{task, same-key, Row, TaskRow, QueueRow, MailboxRow, Model}
 use Rattle.model.specs.Codes.{E-OK, E-TMOUT, finished}
-use Rattle.model.specs.Calls.{Call, View, calls, view-of}
+use Rattle.model.specs.Calls.{Call, View, sends-for-room, sends-forced, receives-word, view-of}
 use Rattle.model.specs.Waits.{Wait, NoWait, Sending, Receiving, AtMailbox, able, ended, wait-end, due, WaitQueue, senders-of, receivers-of, waiters-of, wait-queue}
 use Rattle.model.specs.Errors.{refused}
 use Rattle.model.specs.Tasks.{expire, tick}
@@ -219,8 +219,8 @@ module _ (m : Model) (c : Call) (t : ℕ) (w : WellFormed m) (no-wait : T (not (
       go : (b : Bool) → (T b → T (takes-effect m c)) → cond b (first-cause (causes m c t)) none ≡ none
       go true h = no-cause (causes m c t)
           (both (no-row (eqb (c .number) 0) (due next (wait-end (m .rows (task t) .wait))) (λ k. T-not (is-waiting (m .rows) t) no-wait (due-waits next (m .rows (task t) .wait) k)))
-          (both (no-row (calls c (4 ∷ 5 ∷ 6 ∷ 7 ∷ [])) (is-head t (x .the-queue .receivers)) (λ k. not-receiving (head-in t (x .the-queue .receivers) k)))
-          (both (no-row (calls c (8 ∷ 9 ∷ 10 ∷ [])) (is-head t (x .the-queue .senders)) (λ k. not-sending (head-in t (x .the-queue .senders) k)))
+          (both (no-row (sends-for-room c || sends-forced c) (is-head t (x .the-queue .receivers)) (λ k. not-receiving (head-in t (x .the-queue .receivers) k)))
+          (both (no-row (receives-word c) (is-head t (x .the-queue .senders)) (λ k. not-sending (head-in t (x .the-queue .senders) k)))
           (both (no-row (eqb (c .number) 14) (is-head t (x .the-mailbox .waiters)) (λ k. not-at-mailbox (head-in t (x .the-mailbox .waiters) k)))
           (both (no-row (eqb (c .number) 3) (one-of t (x .the-queue .senders) || one-of t (x .the-queue .receivers))
           (λ k. ⊎-elim (λ i. not-sending (passed-test (is-one-of t (x .the-queue .senders)) i)) (λ i. not-receiving (passed-test (is-one-of t (x .the-queue .receivers)) i))

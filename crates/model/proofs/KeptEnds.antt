@@ -1,7 +1,6 @@
 -- Every call and the tick leave the end ticks of waits ahead: a wait goes on as it was, or is over, or begins with its end ahead.
 use mathlib.Core.Path.{_≡_, refl, sym, ap, subst}
 use mathlib.Core.Bool.{Bool, true, false, not, cond, _&&_}
-use mathlib.Core.List.{[], _∷_}
 use mathlib.Core.Option.{Option, none, some}
 use Prim.Native.Nat.{ℕ, _+_, _%_, _<_}
 use native.Mathlib.Omega.{arith}
@@ -12,7 +11,7 @@ use Rattle.rows.specs.Program.{step-of}
 use Rattle.model.specs.Sizes.{counter-span}
 use Rattle.model.specs.Rows.{task, TaskRow, Model}
 use Rattle.model.specs.Codes.{E-TMOUT}
-use Rattle.model.specs.Calls.{Call, View, calls, has-tmout, may-wait, word-of, view-of}
+use Rattle.model.specs.Calls.{Call, View, sends-for-room, receives-word, has-tmout, may-wait, word-of, view-of}
 use Rattle.model.specs.Waits.{End, Never, At, Sending, Receiving, AtMailbox, wait-end, ended, end-of, due}
 use Rattle.model.specs.Errors.{refused, would-wait}
 use Rattle.model.specs.Tasks.{tick}
@@ -67,7 +66,7 @@ ticked-end m t w = rw (ticked-row m t (w .rows)) (go (due next (wait-end (x .wai
 
 -- The wait that begins ends as the call says.
 pub begun-with : (m : Model) (c : Call) → wait-end (begun-wait m c) ≡ begun-end m c
-begun-with m c = go (calls c (4 ∷ 6 ∷ [])) (calls c (8 ∷ 10 ∷ []))
+begun-with m c = go (sends-for-room c) (receives-word c)
   where
     go : (a b : Bool) → wait-end (cond a (Sending (c .object) (begun-end m c) (word-of c)) (cond b (Receiving (c .object) (begun-end m c)) (AtMailbox (c .object) (begun-end m c)))) ≡ begun-end m c
     go true b = refl

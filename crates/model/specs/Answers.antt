@@ -2,10 +2,10 @@
 use mathlib.Core.Path.{_≡_}
 use mathlib.Core.Bool.{Bool, true, false, not, _&&_}
 use Prim.Native.Nat.{ℕ, _<_}
-use lib.Dec.{T, eqb}
+use lib.Dec.{T}
 use Rattle.model.specs.Sizes.{task-limit, message-limit}
 use Rattle.model.specs.Rows.{Model}
-use Rattle.model.specs.Calls.{Call, may-wait, view-of}
+use Rattle.model.specs.Calls.{Call, may-wait, names-message, view-of}
 use Rattle.model.specs.Errors.{refused, polls, would-wait}
 use Rattle.model.specs.Step.{step}
 use Rattle.model.specs.WellFormed.{WellFormed}
@@ -32,7 +32,7 @@ pub record PlacesAre (m : Model) (c : Call) : Type 0 where
   -- "Place is the number of waiters that stay ahead of it, 0 to 31".
   pub place-below : (place : ℕ) → step m c .answer .outcome ≡ Waits place → place < task-limit
   -- "a is then the number of messages that stay ahead of it" (call 14): of the 64 messages, all but the one that is sent.
-  pub messages-ahead-below : T (eqb (c .number) 14) → step m c .answer .a < message-limit
+  pub messages-ahead-below : T (names-message c) → step m c .answer .a < message-limit
 
 abbrev pub PlacesInRange : Type 0
 PlacesInRange = (m : Model) (c : Call) → WellFormed m → PlacesAre m c

@@ -7,10 +7,15 @@ use Rattle.lists.specs.Lists.{one-of}
 use Rattle.rows.specs.Program as Program
 use Rattle.rows.specs.Program.{Program, return, get, if_then_else_, run, _>>=_}
 use Rattle.model.specs.Sizes.{within}
-use Rattle.model.specs.Rows.{Key, task, suspension, queue, mailbox, message, same-key, valid, Row, TaskRow, QueueRow, MailboxRow, MessageRow, Environment, Model, nothing}
+use Rattle.model.specs.Rows.{Key, task, suspension, queue, mailbox, message, same-key, valid, Row, TaskRow, QueueRow, MailboxRow, MessageRow}
+use Rattle.model.specs.Rows.{Environment, Model, nothing}
 pub use Rattle.model.specs.declared.Call.{Call}
 
 -- ── Which call it is ──
+
+-- Number 0 is no call but the tick.
+abbrev pub is-tick : Call → Bool
+is-tick c = eqb (c .number) 0
 
 -- The call's number is one of these.
 abbrev pub calls : Call → List ℕ → Bool
@@ -41,6 +46,13 @@ creates-queue c = eqb (c .number) 2
 
 abbrev pub creates-mailbox : Call → Bool
 creates-mailbox c = eqb (c .number) 12
+
+-- The calls that delete an object.
+abbrev pub deletes-queue : Call → Bool
+deletes-queue c = eqb (c .number) 3
+
+abbrev pub deletes-mailbox : Call → Bool
+deletes-mailbox c = eqb (c .number) 13
 
 -- Sends to a data queue: snd, psnd and tsnd, which have to wait for room, and fsnd, the forced send.
 abbrev pub sends-for-room : Call → Bool

@@ -10,7 +10,8 @@ use Rattle.model.specs.declared.Answer.{Answer}
 use Rattle.model.specs.declared.Outcome.{Outcome}
 use Rattle.model.specs.declared.Outcome.the-variants.{Finished, Waits}
 pub use Rattle.model.specs.declared.Code.{Code}
-pub use Rattle.model.specs.declared.Code.the-variants.{Ok as E-OK, Sys as E-SYS, Par as E-PAR, Id as E-ID, Ctx as E-CTX, Iluse as E-ILUSE, Obj as E-OBJ, Noexs as E-NOEXS, Qovr as E-QOVR, Rlwai as E-RLWAI, Tmout as E-TMOUT, Dlt as E-DLT}
+pub use Rattle.model.specs.declared.Code.the-variants.{Ok as E-OK, Sys as E-SYS, Par as E-PAR, Id as E-ID, Ctx as E-CTX, Iluse as E-ILUSE, Obj as E-OBJ}
+pub use Rattle.model.specs.declared.Code.the-variants.{Noexs as E-NOEXS, Qovr as E-QOVR, Rlwai as E-RLWAI, Tmout as E-TMOUT, Dlt as E-DLT}
 
 abbrev pub minus : ℕ → ℤ
 minus n = negℤ (pos n)

@@ -5,7 +5,8 @@ use Prim.Native.Nat.{ℕ}
 use lib.ListN.{length}
 use Rattle.lists.specs.Lists.{empty, insert-at}
 use Rattle.rows.specs.Program.{return, get, put, if_then_else_, _>>=_, _>>_}
-use Rattle.model.specs.Rows.{task, queue, TaskRow, QueueRow, Environment, Effect, senders-by-priority, has-room, no-queue, with-words, with-senders, with-receivers}
+use Rattle.model.specs.Rows.{task, queue, TaskRow, QueueRow, Environment, Effect, senders-by-priority, has-room, no-queue, with-words, with-senders}
+use Rattle.model.specs.Rows.{with-receivers}
 use Rattle.model.specs.Codes.{E-OK, E-DLT, finished, waits, done, gives, refused-at-step-7}
 use Rattle.model.specs.Calls.{Call, View, word-of, capacity-of}
 use Rattle.model.specs.Waits.{End, Never, Sending, Receiving, held-word, starting, ended, end-of}

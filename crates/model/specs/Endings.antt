@@ -13,7 +13,8 @@ use Rattle.rows.specs.Runs.{end}
 use Rattle.model.specs.Sizes.{task-limit, counter-span}
 use Rattle.model.specs.Rows.{task, Row, TaskRow, Model}
 use Rattle.model.specs.Codes.{Code, E-OK, E-RLWAI, E-TMOUT, E-DLT, finished}
-use Rattle.model.specs.Calls.{Call, calls, has-tmout, word-of, message-of, task-priority-of, view-of}
+use Rattle.model.specs.Calls.{Call, is-tick, defines-task, sends-for-room, sends-forced, receives-word, names-message, deletes-queue, deletes-mailbox}
+use Rattle.model.specs.Calls.{releases, fetches, has-tmout, word-of, message-of, task-priority-of, view-of}
 use Rattle.model.specs.Waits.{End, Never, At, Wait, NoWait, Sending, Receiving, AtMailbox, able, starting, ended, wait-end, end-of, due}
 use Rattle.model.specs.Errors.{refused}
 use Rattle.model.specs.Step.{step}
@@ -75,18 +76,18 @@ is-head t l = not (empty l) && eqb t (headD l 0)
 unfoldable pub causes : Model → Call → ℕ → List Cause
 causes m c t =
     -- The tick that brings the counter to the wait's end tick.
-    (E-TMOUT and 0 when (eqb (c .number) 0 && due ((m .environment .counter + 1) % counter-span) (wait-end (m .rows (task t) .wait))))
+    (E-TMOUT and 0 when (is-tick c && due ((m .environment .counter + 1) % counter-span) (wait-end (m .rows (task t) .wait))))
     -- A word sent goes to the head receiver.
-    ∷ (E-OK and word-of c when (calls c (4 ∷ 5 ∷ 6 ∷ 7 ∷ []) && is-head t (view-of m c .the-queue .receivers)))
+    ∷ (E-OK and word-of c when ((sends-for-room c || sends-forced c) && is-head t (view-of m c .the-queue .receivers)))
     -- A receive takes the head sender's word, to store it or to hand it over.
-    ∷ (E-OK and 0 when (calls c (8 ∷ 9 ∷ 10 ∷ []) && is-head t (view-of m c .the-queue .senders)))
+    ∷ (E-OK and 0 when (receives-word c && is-head t (view-of m c .the-queue .senders)))
     -- A message sent goes to the head waiter.
-    ∷ (E-OK and message-of c when (eqb (c .number) 14 && is-head t (view-of m c .the-mailbox .waiters)))
+    ∷ (E-OK and message-of c when (names-message c && is-head t (view-of m c .the-mailbox .waiters)))
     -- A delete ends every wait at the data queue, or at the mailbox.
-    ∷ (E-DLT and 0 when (eqb (c .number) 3 && (one-of t (view-of m c .the-queue .senders) || one-of t (view-of m c .the-queue .receivers))))
-    ∷ (E-DLT and 0 when (eqb (c .number) 13 && one-of t (view-of m c .the-mailbox .waiters)))
+    ∷ (E-DLT and 0 when (deletes-queue c && (one-of t (view-of m c .the-queue .senders) || one-of t (view-of m c .the-queue .receivers))))
+    ∷ (E-DLT and 0 when (deletes-mailbox c && one-of t (view-of m c .the-mailbox .waiters)))
     -- rel_wai ends the wait of the task that it names.
-    ∷ (E-RLWAI and 0 when (eqb (c .number) 19 && eqb t (c .object)))
+    ∷ (E-RLWAI and 0 when (releases c && eqb t (c .object)))
     ∷ []
 
 -- The pair of the first cause that applies. (Never two do: each row has calls of its own.)
@@ -96,7 +97,7 @@ first-cause (x ∷ xs) = cond (x .applies) (some (x .pair)) (first-cause xs)
 
 -- The call is accepted, or the tick.
 abbrev pub takes-effect : Model → Call → Bool
-takes-effect m c = eqb (c .number) 0 || not (refused (view-of m c) c)
+takes-effect m c = is-tick c || not (refused (view-of m c) c)
 
 -- What the wait of task t ends with in this step, if it ends. A refused call ends none.
 unfoldable pub due-to : Model → Call → ℕ → Option CodeAndWord
@@ -117,12 +118,12 @@ begun-end m c = cond (has-tmout c) (end-of (m .environment .counter) (c .tmout))
 
 abbrev pub begun-wait : Model → Call → Wait
 begun-wait m c =
-    cond (calls c (4 ∷ 6 ∷ [])) (Sending (c .object) (begun-end m c) (word-of c))
-    (cond (calls c (8 ∷ 10 ∷ [])) (Receiving (c .object) (begun-end m c)) (AtMailbox (c .object) (begun-end m c)))
+    cond (sends-for-room c) (Sending (c .object) (begun-end m c) (word-of c))
+    (cond (receives-word c) (Receiving (c .object) (begun-end m c)) (AtMailbox (c .object) (begun-end m c)))
 
 -- The call, accepted, defines the task.
 abbrev pub defines : Model → Call → ℕ → Bool
-defines m c t = eqb (c .number) 1 && eqb t (c .object) && not (refused (view-of m c) c)
+defines m c t = defines-task c && eqb t (c .object) && not (refused (view-of m c) c)
 
 -- What one call, or the tick, does to the row of task t.
 pub record EndsAsDue (m : Model) (c : Call) (t : ℕ) : Type 0 where
@@ -162,7 +163,7 @@ EndedWaitsAreDue = (m : Model) (c : Call) → WellFormed m → EndedAreDue m c
 -- "Several in one tick end in ascending task number; a is how many."
 abbrev pub TickCountsEnds : Type 0
 TickCountsEnds =
-    (m : Model) (c : Call) → WellFormed m → T (eqb (c .number) 0)
+    (m : Model) (c : Call) → WellFormed m → T (is-tick c)
     → step m c .answer ≡ finished E-OK (length (ended-waits (m .rows) (step m c .state .rows))) 0 0
 
 -- ── The stored pair, until the next wait begins ──
@@ -174,7 +175,7 @@ NoWaitBegins t m (c ∷ cs) = T (not (wait-begins m c t)) × NoWaitBegins t (ste
 
 -- The call is an accepted fetch of task t.
 pub record FetchOf (t : ℕ) (m : Model) (c : Call) : Type 0 where
-  pub is-fetch : T (eqb (c .number) 23)
+  pub is-fetch : T (fetches c)
   pub names-it : c .object ≡ t
   pub accepted : T (not (refused (view-of m c) c))
 
@@ -197,7 +198,7 @@ FetchGivesWhatWasDue =
 -- How many of these are ticks.
 unfoldable pub ticks : List Call → ℕ
 ticks [] = 0
-ticks (c ∷ cs) = cond (eqb (c .number) 0) (suc (ticks cs)) (ticks cs)
+ticks (c ∷ cs) = cond (is-tick c) (suc (ticks cs)) (ticks cs)
 
 -- The wait that task t has in m goes on through these calls and ticks: the task waits in every state from m to the last.
 unfoldable pub GoesOn : ℕ → Model → List Call → Type 0

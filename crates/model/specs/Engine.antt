@@ -1,16 +1,16 @@
 -- What a step of a record promises, whatever kind of record it is. Document 01 fixes each call by the states before and after it, so all that is used of a
 -- record is what it means and when it is sound. A kind of record with these is an engine (our own word).
 use mathlib.Core.Path.{_≡_}
-use mathlib.Core.Bool.{true, not}
+use mathlib.Core.Bool.{not}
 use mathlib.Core.Logic.{_↔_}
 use Prim.Native.Nat.{ℕ, _<_, _≤_}
-use lib.Dec.{T, eqb}
+use lib.Dec.{T}
 use Rattle.rows.specs.Program as Program
 use Rattle.rows.specs.Program.{run}
 use Rattle.model.specs.Sizes.{call-limit}
 use Rattle.model.specs.Rows.{same-key, Row, Environment, Model, Effect}
 use Rattle.model.specs.Codes.{Code, E-PAR, E-SYS, values, finished, finished-values}
-use Rattle.model.specs.Calls.{Call, View, view-of}
+use Rattle.model.specs.Calls.{Call, is-tick, View, view-of}
 use Rattle.model.specs.Errors.{refused}
 use Rattle.model.specs.Step.{step}
 use Rattle.model.specs.WellFormed.{WellFormed}
@@ -73,7 +73,7 @@ pub record Follows {S : Type 0} (E : Engine S) (s : S) (c : Call) (after : S) (a
   pub values-are : values answer ≡ values (step (E .abs s) c .answer)
   pub meaning-is : E .abs after ≡ step (E .abs s) c .state
   pub sound : E .Sound after
-  pub unchanged : T (not (eqb (c .number) 0)) → T (refused (view-of (E .abs s) c) c) → after ≡ s
+  pub unchanged : T (not (is-tick c)) → T (refused (view-of (E .abs s) c) c) → after ≡ s
 
 -- A step of any record, sound or not, with any call, of whatever number; number 0 is the tick. It found the record as s, handed it back or left it as `after`,
 -- and gave the answer.

@@ -10,7 +10,10 @@ use Rattle.rows.specs.Program.{if_then_else_}
 use Rattle.model.specs.Rows.{task, queue, mailbox, message, valid, has-room, messages-by-priority, Effect}
 use Rattle.model.specs.Waits.{able}
 use Rattle.model.specs.Codes.{Code, E-OK, E-SYS, E-PAR, E-ID, E-CTX, E-ILUSE, E-OBJ, E-NOEXS, E-QOVR, E-TMOUT, minus, refuse}
-use Rattle.model.specs.Calls.{Call, calls, creates, defines-task, creates-queue, creates-mailbox, sends-for-room, sends-forced, receives-word, receives-message, may-wait, polls-by-name, has-tmout, releases, suspends, resumes, fetches, names-task, names-queue, names-mailbox, names-message, message-of, capacity-of, task-priority-of, highest-of, message-priority-of, CallerView, View}
+use Rattle.model.specs.Calls.{Call, is-tick, calls, creates, defines-task, creates-queue, creates-mailbox, sends-for-room, sends-forced, receives-word}
+use Rattle.model.specs.Calls.{receives-message, may-wait, polls-by-name, has-tmout, releases, suspends, resumes, fetches, names-task, names-queue}
+use Rattle.model.specs.Calls.{names-mailbox, names-message, message-of, capacity-of, task-priority-of, highest-of, message-priority-of, CallerView}
+use Rattle.model.specs.Calls.{View}
 
 -- ── Step 0 ──
 
@@ -20,7 +23,7 @@ unknown c = ltb call-limit (c .number)
 
 -- A record in a table of calls (document 02, item 2): there is no tick there.
 unfoldable pub unknown-in-table : Call → Bool
-unknown-in-table c = eqb (c .number) 0 || unknown c
+unknown-in-table c = is-tick c || unknown c
 
 -- ── Step 1 ──
 

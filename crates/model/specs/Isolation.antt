@@ -11,7 +11,7 @@ use Rattle.rows.specs.Program as Program
 use Rattle.rows.specs.Merge.{Separate}
 use Rattle.rows.specs.Merges.{SeparateAll}
 use Rattle.model.specs.Rows.{Key, task, suspension, queue, mailbox, message, valid, Row, MessageRow, Model, empty-state}
-use Rattle.model.specs.Calls.{Call, names}
+use Rattle.model.specs.Calls.{Call, is-tick, names}
 use Rattle.model.specs.Waits.{Wait, object-named}
 use Rattle.model.specs.Step.{step}
 use Rattle.model.specs.WellFormed.{WellFormed}
@@ -51,7 +51,7 @@ pub record Placed (S : Key → Type 0) (m : Program.Rows Row) : Type 0 where
 
 -- A call in the carrier's list: no tick, and each valid number that it names is the carrier's own. A number that isn't valid may be any.
 pub record CallOf (S : Key → Type 0) (c : Call) : Type 0 where
-  pub no-tick : T (not (eqb (c .number) 0))
+  pub no-tick : T (not (is-tick c))
   pub own-names : Each (λ k. T (valid k) → S k) (names c)
 
 -- ── Two carriers ──

@@ -4,7 +4,8 @@ use mathlib.Core.List.{List, [], _∷_, tail, headD}
 use Prim.Native.Nat.{ℕ}
 use Rattle.lists.specs.Lists.{empty, insert-at}
 use Rattle.rows.specs.Program.{return, put, get-each, if_then_else_, _>>=_, _>>_}
-use Rattle.model.specs.Rows.{task, mailbox, message, TaskRow, MailboxRow, Environment, Effect, waiters-by-priority, messages-by-priority, no-mailbox, free, with-waiters, with-messages}
+use Rattle.model.specs.Rows.{task, mailbox, message, TaskRow, MailboxRow, Environment, Effect, waiters-by-priority, messages-by-priority, no-mailbox}
+use Rattle.model.specs.Rows.{free, with-waiters, with-messages}
 use Rattle.model.specs.Codes.{E-OK, E-DLT, finished, waits, done, gives, refused-at-step-7}
 use Rattle.model.specs.Calls.{Call, View, message-of, highest-of, message-priority-of}
 use Rattle.model.specs.Waits.{End, Never, AtMailbox, starting, end-of}
@@ -68,7 +69,8 @@ module _ (e : Environment) (v : View) (c : Call) where
   -- 12: the highest message priority is kept with attribute 2 or 3 alone.
   abbrev pub cre-mbx : Effect
   cre-mbx = do
-    put (mailbox (c .object)) (record { defined = true; attribute = c .attribute; highest = cond (messages-by-priority (c .attribute)) (highest-of c) 0; waiters = []; messages = [] })
+    let highest = cond (messages-by-priority (c .attribute)) (highest-of c) 0
+    put (mailbox (c .object)) (record { defined = true; attribute = c .attribute; highest = highest; waiters = []; messages = [] })
     done
 
   -- 13: the waits end first, then the messages are freed.

@@ -1,10 +1,10 @@
 -- Demand 1's and 2's refusals, over the definition: a refusal needs its row, changes nothing and has no words; without one there is no error.
 use mathlib.Core.Path.{_≡_}
 use mathlib.Core.Bool.{not}
-use lib.Dec.{T, eqb}
+use lib.Dec.{T}
 use Rattle.model.specs.Rows.{Model}
 use Rattle.model.specs.Codes.{E-OK, finished}
-use Rattle.model.specs.Calls.{Call, fetches, view-of}
+use Rattle.model.specs.Calls.{Call, is-tick, fetches, view-of}
 use Rattle.model.specs.Errors.{refused, refusal}
 use Rattle.model.specs.Step.{step}
 use Rattle.model.specs.declared.Outcome.{Outcome}
@@ -22,4 +22,4 @@ pub record RefusedByTable (m : Model) (c : Call) : Type 0 where
   pub else-no-error : T (not (refused (view-of m c) c)) → T (not (fetches c)) → NoError (step m c .answer .outcome)
 
 abbrev pub Refusals : Type 0
-Refusals = (m : Model) (c : Call) → T (not (eqb (c .number) 0)) → RefusedByTable m c
+Refusals = (m : Model) (c : Call) → T (not (is-tick c)) → RefusedByTable m c

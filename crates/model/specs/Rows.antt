@@ -121,13 +121,16 @@ empty-state counter = record { environment = record { counter = counter }; rows 
 
 -- A row with a part of it changed.
 abbrev pub with-words : List ℕ → QueueRow → QueueRow
-with-words words x = record { defined = x .defined; attribute = x .attribute; capacity = x .capacity; words = words; senders = x .senders; receivers = x .receivers }
+with-words words x =
+    record { defined = x .defined; attribute = x .attribute; capacity = x .capacity; words = words; senders = x .senders; receivers = x .receivers }
 
 abbrev pub with-senders : List ℕ → QueueRow → QueueRow
-with-senders senders x = record { defined = x .defined; attribute = x .attribute; capacity = x .capacity; words = x .words; senders = senders; receivers = x .receivers }
+with-senders senders x =
+    record { defined = x .defined; attribute = x .attribute; capacity = x .capacity; words = x .words; senders = senders; receivers = x .receivers }
 
 abbrev pub with-receivers : List ℕ → QueueRow → QueueRow
-with-receivers receivers x = record { defined = x .defined; attribute = x .attribute; capacity = x .capacity; words = x .words; senders = x .senders; receivers = receivers }
+with-receivers receivers x =
+    record { defined = x .defined; attribute = x .attribute; capacity = x .capacity; words = x .words; senders = x .senders; receivers = receivers }
 
 abbrev pub with-waiters : List ℕ → MailboxRow → MailboxRow
 with-waiters waiters x = record { defined = x .defined; attribute = x .attribute; highest = x .highest; waiters = waiters; messages = x .messages }

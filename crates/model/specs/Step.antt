@@ -1,12 +1,11 @@
 -- Document 01, "The calls, by number": a call from its number to its answer; number 0 is the tick.
 use mathlib.Core.Bool.{cond}
 use mathlib.Core.List.{List, [], _∷_}
-use lib.Dec.{eqb}
 use lib.ListN.{getD}
 use Rattle.rows.specs.Program.{Result, run-first, step-of, _>>=_, _>>_}
 use Rattle.model.specs.Rows.{same-key, Environment, Model, Effect}
 use Rattle.model.specs.Codes.{E-PAR, refuse}
-use Rattle.model.specs.Calls.{Call, View, see-caller, see-named}
+use Rattle.model.specs.Calls.{Call, is-tick, View, see-caller, see-named}
 use Rattle.model.specs.Errors.{rows-to-step-4, rows-from-step-5, unless-refused}
 use Rattle.model.specs.DataQueues.{cre-dtq, del-dtq, snd-dtq, psnd-dtq, tsnd-dtq, fsnd-dtq, rcv-dtq, prcv-dtq, trcv-dtq, ref-dtq}
 use Rattle.model.specs.Mailboxes.{cre-mbx, del-mbx, snd-mbx, rcv-mbx, prcv-mbx, trcv-mbx, ref-mbx}
@@ -49,4 +48,4 @@ call m c = step-of same-key program m c
 
 -- One call, or the tick.
 unfoldable pub step : Model → Call → Result Model Answer
-step m c = cond (eqb (c .number) 0) (tick m) (call m c)
+step m c = cond (is-tick c) (tick m) (call m c)

@@ -1,5 +1,5 @@
--- Document 01, "A sound record": its sentences, over rows. "Well-formed" is our word for what rows can show of a sound record. What the record must be beside that, so that rows can be read
--- from it (chains that end, rings in range), stands with the record.
+-- Document 01, "A sound record": its sentences, over rows. "Well-formed" is our word for what rows can show of a sound record. What the record must be beside
+-- that, so that rows can be read from it (chains that end, rings in range), stands with the record.
 use mathlib.Core.Path.{_≡_}
 use mathlib.Core.Bool.{Bool, not, cond}
 use mathlib.Core.List.{[], _∷_, map}
@@ -11,7 +11,8 @@ use Rattle.lists.specs.Lists.{empty, InOrder, StandsWhereNamed}
 use Rattle.lists.specs.Options.{IfSome}
 use Rattle.rows.specs.Program as Program
 use Rattle.model.specs.Sizes.{capacity-limit, priority-limit, end-limit, counter-span}
-use Rattle.model.specs.Rows.{Key, task, suspension, queue, mailbox, message, valid, Row, TaskRow, QueueRow, MailboxRow, MessageRow, Model, messages-by-priority, nothing, empty-state}
+use Rattle.model.specs.Rows.{Key, task, suspension, queue, mailbox, message, valid, Row, TaskRow, QueueRow, MailboxRow, MessageRow, Model}
+use Rattle.model.specs.Rows.{messages-by-priority, nothing, empty-state}
 use Rattle.model.specs.Codes.{Code, E-OK, E-RLWAI, E-TMOUT, E-DLT, code-in}
 use Rattle.model.specs.Calls.{Call}
 use Rattle.model.specs.Waits.{Wait, NoWait, End, Never, At, wait-end, WaitQueue, wait-queue, object-named}
@@ -91,7 +92,8 @@ pub record WellFormedRows (m : Program.Rows Row) : Type 0 where
   -- In a wait queue by priority the numbers never fall.
   pub waiting-in-order : (k : WaitQueue) → T (by-priority m k) → InOrder 1 priority-limit (map (λ t. m (task t) .priority) (standing-in m k))
   -- Nor in a message queue by priority; and each of them is from 1 to the mailbox's highest.
-  pub queued-in-order : (b : ℕ) → T (messages-by-priority (m (mailbox b) .attribute)) → InOrder 1 (m (mailbox b) .highest) (map (λ g. m (message g) .priority) (m (mailbox b) .messages))
+  pub queued-in-order : (b : ℕ) → T (messages-by-priority (m (mailbox b) .attribute))
+      → InOrder 1 (m (mailbox b) .highest) (map (λ g. m (message g) .priority) (m (mailbox b) .messages))
   -- Each object and each task by itself.
   pub queues : (q : ℕ) → QueueWellFormed (m (queue q))
   pub mailboxes : (b : ℕ) → MailboxWellFormed (m (mailbox b))

@@ -1,4 +1,5 @@
--- Document 01, "A sound record": when two states are equal, said of the records themselves. Nothing else counts, as the comment on what is free says (Meaning.antt).
+-- Document 01, "A sound record": when two states are equal, said of the records themselves. Nothing else counts, as the comment on what is free says
+-- (Meaning.antt).
 use mathlib.Core.Path.{_≡_}
 use mathlib.Core.Logic.{_↔_}
 use Prim.Native.Nat.{ℕ}
@@ -46,7 +47,8 @@ pub record SameState (s u : State) : Type 0 where
   pub wait-queues : (k : WaitQueue) → T (valid (object-of k)) → tasks-in (s .waiting .link) k ≡ tasks-in (u .waiting .link) k
   pub message-queues : (b : ℕ) → T (valid (mailbox b)) → messages-in (s .messages .link) b ≡ messages-in (u .messages .link) b
   -- The priorities kept with queued messages.
-  pub kept-priorities : (g : ℕ) → T (valid (message g)) → T (keeps-priorities (s .mailboxes) (mailbox-of (s .messages .link) g)) → getD (s .messages .key) g 0 ≡ getD (u .messages .key) g 0
+  pub kept-priorities : (g : ℕ) → T (valid (message g)) → T (keeps-priorities (s .mailboxes) (mailbox-of (s .messages .link) g))
+      → getD (s .messages .key) g 0 ≡ getD (u .messages .key) g 0
 
 -- Two sound records are equal states exactly when they mean the same.
 abbrev pub EqualStates : Type 0

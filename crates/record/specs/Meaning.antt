@@ -1,8 +1,9 @@
 -- Document 01, "A sound record", what equal states agree on: the rows that a record means.
 --
--- Free, and seen by no caller: cell 0 of every array; keys above 32 of the table of waiting tasks; links of numbers that stand in no chain; keys of messages that keep no priority; of whatever
--- isn't defined the attribute, the capacity, the head of the ring, the highest message priority, the priority and the stored pair; the highest message priority without attribute 2; where a ring
--- starts, and its cells outside the stored words; the numbers that a task's wait doesn't use.
+-- Free, and seen by no caller: cell 0 of every array; keys above 32 of the table of waiting tasks; links of numbers that stand in no chain; keys of messages
+-- that keep no priority; of whatever isn't defined the attribute, the capacity, the head of the ring, the highest message priority, the priority and the stored
+-- pair; the highest message priority without attribute 2; where a ring starts, and its cells outside the stored words; the numbers that a task's wait doesn't
+-- use.
 use mathlib.Core.Bool.{Bool, false, cond}
 use mathlib.Core.List.{List, []}
 use Prim.Native.Nat.{ℕ}

@@ -13,8 +13,8 @@ use Rattle.parts.specs.Chains.{task-chains, message-chains}
 use Rattle.record.specs.declared.State.{State}
 use Rattle.record.specs.Meaning.{abs, queue-at}
 
--- The sizes that the record's type gives its arrays: they hold of every record, and stand here so that whoever has a sound record has them. Those of the links stand in `chain.Sound`; the rings'
--- words need none.
+-- The sizes that the record's type gives its arrays: they hold of every record, and stand here so that whoever has a sound record has them. Those of the links
+-- stand in `chain.Sound`; the rings' words need none.
 pub record Sizes (s : State) : Type 0 where
   pub tasks : length (s .tasks) ≡ 33
   pub queues : length (s .queues) ≡ 17

@@ -32,6 +32,8 @@ module _ {I S R A : Type 0} (step : S → R → Result S A) where
 -- The claim about any number of lists from one state.
 pub record SeparateAll {I S R A : Type 0} (same-owner : Discrete I) (step : S → R → Result S A) (s : S) (lists : I → List R) : Type 0 where
   -- In every merge each owner's answers are those of its list alone.
-  pub answers-alone : (turns : List (I × R)) → MergeOf same-owner lists turns → MergeOf same-owner (λ i. answers step s (lists i)) (answers-of-turns step s turns)
+  pub answers-alone : (turns : List (I × R))
+      → MergeOf same-owner lists turns → MergeOf same-owner (λ i. answers step s (lists i)) (answers-of-turns step s turns)
   -- All merges end in equal states.
-  pub one-end : (turns turns′ : List (I × R)) → MergeOf same-owner lists turns → MergeOf same-owner lists turns′ → end-of-turns step s turns ≡ end-of-turns step s turns′
+  pub one-end : (turns turns′ : List (I × R))
+      → MergeOf same-owner lists turns → MergeOf same-owner lists turns′ → end-of-turns step s turns ≡ end-of-turns step s turns′

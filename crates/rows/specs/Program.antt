@@ -19,7 +19,8 @@ module _ {Key : Type 0} {Row : Key → Type 0} {A : Type 0} where
   _>>_ action rest = action rest
 
 -- What is read off each of these rows, in order.
-unfoldable pub get-each : {Key : Type 0} {Row : Key → Type 0} {N X A : Type 0} (key : N → Key) → ((n : N) → Row (key n) → X) → List N → (List X → Program Key Row A) → Program Key Row A
+unfoldable pub get-each : {Key : Type 0} {Row : Key → Type 0} {N X A : Type 0} (key : N → Key) → ((n : N) → Row (key n) → X)
+    → List N → (List X → Program Key Row A) → Program Key Row A
 get-each key read [] rest = rest []
 get-each key read (n ∷ ns) rest = do
   row ← get (key n)

@@ -1,4 +1,5 @@
--- What is seen of a cell: the row that it means where the number is valid, and nothing elsewhere (model: `row-if-valid`). A task's priority and a mailbox's waiters aren't looked at.
+-- What is seen of a cell: the row that it means where the number is valid, and nothing elsewhere (model: `row-if-valid`). A task's priority and a mailbox's
+-- waiters aren't looked at.
 use mathlib.Core.Path.{_≡_}
 use mathlib.Core.Bool.{Bool, false, cond}
 use mathlib.Core.List.{List}
