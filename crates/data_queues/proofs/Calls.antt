@@ -14,8 +14,8 @@ use Rattle.ring.specs.declared.Ring.{Ring}
 use Rattle.model.specs.Sizes.{capacity-limit}
 use Rattle.model.specs.Rows.{queue, Environment, Effect, same-key, valid, QueueRow, no-queue}
 use Rattle.model.specs.Codes.{finished, done}
-use Rattle.model.specs.Calls.{View, names-queue, creates}
-use Rattle.model.specs.Errors.{task-only, exists}
+use Rattle.model.specs.Calls.{View, names-queue, creates, task-only}
+use Rattle.model.specs.Errors.{exists}
 use Rattle.model.specs.WaitQueues.{end-waits}
 use Rattle.model.specs.DataQueues.{send, receive, cre-dtq, del-dtq, snd-dtq, psnd-dtq, tsnd-dtq, fsnd-dtq, rcv-dtq, prcv-dtq, trcv-dtq, ref-dtq}
 use Rattle.model.specs.Waits.{end-of, senders-of, receivers-of}

@@ -89,7 +89,7 @@ fn called_while_locked(call: Call) -> bool
 
 // The calls that only a task can make.
 fn task_only(call: Call) -> bool
-    ensures { λ r. ⌜ r ≡ table.task-only call ⌝ }
+    ensures { λ r. ⌜ r ≡ calls.task-only call ⌝ }
 {
     let n = call.number;
     (n == 3) | (n == 4) | (n == 6) | (n == 8) | (n == 10) | (n == 13) | (n == 15) | (n == 17)

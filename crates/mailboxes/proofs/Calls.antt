@@ -15,8 +15,8 @@ use Rattle.chain.specs.Changes.{HasChain, Changed}
 use Rattle.model.specs.Sizes.{mailbox-limit, message-limit, priority-limit}
 use Rattle.model.specs.Rows.{task, mailbox, message, valid, same-key, messages-by-priority, no-mailbox, Environment, Effect}
 use Rattle.model.specs.Codes.{finished}
-use Rattle.model.specs.Calls.{creates, names-mailbox, message-of, highest-of, message-priority-of, View}
-use Rattle.model.specs.Errors.{task-only, exists, polls, would-wait}
+use Rattle.model.specs.Calls.{creates, names-mailbox, message-of, highest-of, message-priority-of, View, task-only}
+use Rattle.model.specs.Errors.{exists, polls, would-wait}
 use Rattle.model.specs.Mailboxes.{deliver-message, queue-message, take-message, wait-for-message, send-message, receive-message, cre-mbx, del-mbx, snd-mbx, rcv-mbx, prcv-mbx, trcv-mbx, ref-mbx}
 use Rattle.model.specs.Waits.{end-of, waiters-of}
 use Rattle.model.specs.declared.Call.{Call}

@@ -7,9 +7,9 @@ use mir.Facts.{T-not-not, yes-and, eqb-no}
 use Rattle.lists.specs.Lists.{Each, none, both, one-of}
 use Rattle.model.specs.Sizes.{task-limit}
 use Rattle.model.specs.Rows.{Key, task, suspension, queue, mailbox, message, valid}
-use Rattle.model.specs.Calls.{Call, CallerView, View, names, names-task, reads-suspension, names-queue, names-mailbox, names-message, message-of}
+use Rattle.model.specs.Calls.{Call, CallerView, View, names, names-task, reads-suspension, names-queue, names-mailbox, names-message, message-of, task-only}
 use Rattle.model.specs.Waits.{able}
-use Rattle.model.specs.Errors.{unknown, caller-cannot-call, task-only, called-while-locked, called-by-handler, called-while-disabled, number-outside, tmout-outside, attribute-outside, capacity-outside, task-priority-outside, message-outside, highest-outside, missing, message-priority-outside, wrong-state, suspended-already, nothing-to-drop, polls, would-wait, error-table, rows-to-step-4, rows-from-step-5, some-applies, refused}
+use Rattle.model.specs.Errors.{unknown, caller-cannot-call, called-while-locked, called-by-handler, called-while-disabled, number-outside, tmout-outside, attribute-outside, capacity-outside, task-priority-outside, message-outside, highest-outside, missing, message-priority-outside, wrong-state, suspended-already, nothing-to-drop, polls, would-wait, error-table, rows-to-step-4, rows-from-step-5, some-applies, refused}
 use Rattle.model.proofs.Tests.{or-right, neither-left, neither-right, not-both, not-both-left}
 
 -- Whoever reads a suspension names that task.

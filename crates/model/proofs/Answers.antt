@@ -20,9 +20,9 @@ use Rattle.rows.specs.Program.{step-of}
 use Rattle.model.specs.Sizes.{call-limit, task-limit, message-limit, within}
 use Rattle.model.specs.Rows.{task, mailbox, message, valid, Row, TaskRow, QueueRow, MailboxRow, MessageRow, Environment, Effect, Model, has-room, senders-by-priority, waiters-by-priority, messages-by-priority}
 use Rattle.model.specs.Codes.{Code, E-OK, E-TMOUT, finished, waits}
-use Rattle.model.specs.Calls.{Call, View, names-message, message-of, may-wait, view-of}
+use Rattle.model.specs.Calls.{Call, View, names-message, message-of, may-wait, view-of, task-only}
 use Rattle.model.specs.Waits.{End, NoWait, WaitQueue, senders-of, receivers-of, waiters-of, wait-queue}
-use Rattle.model.specs.Errors.{task-only, unknown, unknown-in-table, polls, would-wait, refused}
+use Rattle.model.specs.Errors.{unknown, unknown-in-table, polls, would-wait, refused}
 use Rattle.model.specs.WaitQueues.{place, release, standing-in}
 use Rattle.model.specs.DataQueues.{deliver, store, replace-oldest, wait-to-send, send, take-oldest, take-oldest-and-refill, take-from-sender, wait-to-receive, receive, cre-dtq, del-dtq, snd-dtq, psnd-dtq, tsnd-dtq, fsnd-dtq, rcv-dtq, prcv-dtq, trcv-dtq, ref-dtq}
 use Rattle.model.specs.Mailboxes.{deliver-message, queue-message, take-message, wait-for-message, send-message, receive-message, cre-mbx, del-mbx, snd-mbx, rcv-mbx, prcv-mbx, trcv-mbx, ref-mbx}

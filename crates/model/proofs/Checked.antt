@@ -11,9 +11,9 @@ use mir.Facts.{T-not-not, yes-and, eqb-no}
 use Rattle.lists.specs.Lists.{empty}
 use Rattle.model.specs.Sizes.{task-limit, capacity-limit, priority-limit, tmout-limit, counter-span, within}
 use Rattle.model.specs.Rows.{messages-by-priority}
-use Rattle.model.specs.Calls.{Call, View, calls, creates, has-tmout, names-message, capacity-of, task-priority-of, highest-of, message-priority-of}
+use Rattle.model.specs.Calls.{Call, View, calls, creates, has-tmout, names-message, capacity-of, task-priority-of, highest-of, message-priority-of, task-only}
 use Rattle.model.specs.Waits.{Wait, NoWait, Sending, Receiving, AtMailbox, able, end-of}
-use Rattle.model.specs.Errors.{caller-cannot-call, task-only, called-by-handler, tmout-outside, attribute-outside, capacity-outside, task-priority-outside, highest-outside, exists, missing, message-priority-outside, wrong-state, nothing-to-drop, is-zero, polls, would-wait}
+use Rattle.model.specs.Errors.{caller-cannot-call, called-by-handler, tmout-outside, attribute-outside, capacity-outside, task-priority-outside, highest-outside, exists, missing, message-priority-outside, wrong-state, nothing-to-drop, is-zero, polls, would-wait}
 use Rattle.model.specs.WellFormed.{EndAhead}
 use Rattle.model.proofs.Tests.{from-within, neither-left, neither-right, not-both, not-both-left}
 use Rattle.model.proofs.Accepted.{Passes}

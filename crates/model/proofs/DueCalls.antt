@@ -17,9 +17,9 @@ use Rattle.rows.specs.Program.{update}
 use Rattle.model.specs.Sizes.{call-limit}
 use Rattle.model.specs.Rows.{task, message, same-key, Row, TaskRow, QueueRow, MailboxRow, Environment, Effect, Model, has-room}
 use Rattle.model.specs.Codes.{Code, E-OK, E-RLWAI, E-DLT, waits, finished}
-use Rattle.model.specs.Calls.{Call, View, task-priority-of, view-of}
+use Rattle.model.specs.Calls.{Call, View, task-priority-of, view-of, task-only}
 use Rattle.model.specs.Waits.{Wait, NoWait, Sending, Receiving, AtMailbox, End, starting, ended}
-use Rattle.model.specs.Errors.{unknown, task-only, exists, missing}
+use Rattle.model.specs.Errors.{unknown, exists, missing}
 use Rattle.model.specs.WaitQueues.{release}
 use Rattle.model.specs.DataQueues.{deliver, store, replace-oldest, wait-to-send, send, take-oldest, take-oldest-and-refill, take-from-sender, wait-to-receive, receive, cre-dtq, del-dtq, snd-dtq, psnd-dtq, tsnd-dtq, fsnd-dtq, rcv-dtq, prcv-dtq, trcv-dtq, ref-dtq}
 use Rattle.model.specs.Mailboxes.{deliver-message, queue-message, take-message, wait-for-message, send-message, receive-message, cre-mbx, del-mbx, snd-mbx, rcv-mbx, prcv-mbx, trcv-mbx, ref-mbx}

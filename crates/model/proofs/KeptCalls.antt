@@ -11,9 +11,9 @@ use Rattle.rows.specs.Program as Program
 use Rattle.model.specs.Sizes.{call-limit}
 use Rattle.model.specs.Rows.{Key, task, queue, mailbox, message, valid, Row, Environment, Effect, Model, no-task, no-queue, no-mailbox, free, has-room}
 use Rattle.model.specs.Codes.{E-RLWAI}
-use Rattle.model.specs.Calls.{Call, View, word-of, names-task, names-queue, names-mailbox, names-message, message-of, view-of}
+use Rattle.model.specs.Calls.{Call, View, word-of, names-task, names-queue, names-mailbox, names-message, message-of, view-of, task-only}
 use Rattle.model.specs.Waits.{End, Never}
-use Rattle.model.specs.Errors.{unknown, exists, missing, task-only}
+use Rattle.model.specs.Errors.{unknown, exists, missing}
 use Rattle.model.specs.DataQueues.{wait-to-send, send, wait-to-receive, receive, cre-dtq, del-dtq, snd-dtq, psnd-dtq, tsnd-dtq, fsnd-dtq, rcv-dtq, prcv-dtq, trcv-dtq, ref-dtq}
 use Rattle.model.specs.Mailboxes.{wait-for-message, receive-message, cre-mbx, del-mbx, snd-mbx, rcv-mbx, prcv-mbx, trcv-mbx, ref-mbx}
 use Rattle.model.specs.Tasks.{define-task, rel-wai, sus-tsk, rsm-tsk, look, fetch}

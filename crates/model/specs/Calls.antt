@@ -78,6 +78,10 @@ polls-by-name c = calls c (5 ∷ 9 ∷ 16 ∷ [])
 abbrev pub has-tmout : Call → Bool
 has-tmout c = calls c (6 ∷ 10 ∷ 17 ∷ [])
 
+-- The calls that only a task can make: the two deletes, and those that may wait.
+abbrev pub task-only : Call → Bool
+task-only c = calls c (3 ∷ 4 ∷ 6 ∷ 8 ∷ 10 ∷ 13 ∷ 15 ∷ 17 ∷ [])
+
 -- Calls on a task: rel_wai, sus_tsk, rsm_tsk, look and fetch; and those of them to which its suspension matters.
 abbrev pub releases : Call → Bool
 releases c = eqb (c .number) 19

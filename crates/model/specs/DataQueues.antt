@@ -92,8 +92,8 @@ module _ (e : Environment) (v : View) (c : Call) where
   abbrev send-until : End → Effect
   send-until end = send (c .object) (v .the-queue) (word-of c) (wait-to-send (c .object) (v .the-queue) (c .caller) (v .caller .row) (word-of c) end)
 
-  abbrev receive-until : End → Effect
-  receive-until end = receive (c .object) (v .the-queue) (wait-to-receive (c .object) (v .the-queue) (c .caller) (v .caller .row) end)
+  abbrev receive-word-until : End → Effect
+  receive-word-until end = receive (c .object) (v .the-queue) (wait-to-receive (c .object) (v .the-queue) (c .caller) (v .caller .row) end)
 
   -- 2
   abbrev pub cre-dtq : Effect
@@ -127,7 +127,7 @@ module _ (e : Environment) (v : View) (c : Call) where
 
   -- 8
   abbrev pub rcv-dtq : Effect
-  rcv-dtq = receive-until Never
+  rcv-dtq = receive-word-until Never
 
   -- 9
   abbrev pub prcv-dtq : Effect
@@ -135,7 +135,7 @@ module _ (e : Environment) (v : View) (c : Call) where
 
   -- 10
   abbrev pub trcv-dtq : Effect
-  trcv-dtq = receive-until (end-of (e .counter) (c .tmout))
+  trcv-dtq = receive-word-until (end-of (e .counter) (c .tmout))
 
   -- 11: no waiter reads as 0.
   abbrev pub ref-dtq : Effect

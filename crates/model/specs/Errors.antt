@@ -10,7 +10,7 @@ use Rattle.rows.specs.Program.{if_then_else_}
 use Rattle.model.specs.Rows.{task, queue, mailbox, message, valid, has-room, messages-by-priority, Effect}
 use Rattle.model.specs.Waits.{able}
 use Rattle.model.specs.Codes.{Code, E-OK, E-SYS, E-PAR, E-ID, E-CTX, E-ILUSE, E-OBJ, E-NOEXS, E-QOVR, E-TMOUT, minus, refuse}
-use Rattle.model.specs.Calls.{Call, is-tick, calls, creates, defines-task, creates-queue, creates-mailbox, sends-for-room, sends-forced, receives-word}
+use Rattle.model.specs.Calls.{Call, is-tick, task-only, creates, defines-task, creates-queue, creates-mailbox, sends-for-room, sends-forced, receives-word}
 use Rattle.model.specs.Calls.{receives-message, may-wait, polls-by-name, has-tmout, releases, suspends, resumes, fetches, names-task, names-queue}
 use Rattle.model.specs.Calls.{names-mailbox, names-message, message-of, capacity-of, task-priority-of, highest-of, message-priority-of, CallerView}
 use Rattle.model.specs.Calls.{View}
@@ -40,10 +40,6 @@ caller-cannot-call caller c =
 
 unfoldable pub called-while-locked : Call → Bool
 called-while-locked c = c .locked && within 1 call-limit (c .number)
-
--- The calls that only a task can make.
-abbrev pub task-only : Call → Bool
-task-only c = calls c (3 ∷ 4 ∷ 6 ∷ 8 ∷ 10 ∷ 13 ∷ 15 ∷ 17 ∷ [])
 
 unfoldable pub called-by-handler : Call → Bool
 called-by-handler c = eqb (c .caller) 0 && task-only c

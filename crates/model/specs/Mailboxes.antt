@@ -63,8 +63,8 @@ module _ (b : ℕ) (x : MailboxRow) where
   receive-message otherwise = if not (empty (x .messages)) then take-message else otherwise
 
 module _ (e : Environment) (v : View) (c : Call) where
-  abbrev receive-until : End → Effect
-  receive-until end = receive-message (c .object) (v .the-mailbox) (wait-for-message (c .object) (v .the-mailbox) (c .caller) (v .caller .row) end)
+  abbrev receive-message-until : End → Effect
+  receive-message-until end = receive-message (c .object) (v .the-mailbox) (wait-for-message (c .object) (v .the-mailbox) (c .caller) (v .caller .row) end)
 
   -- 12: the highest message priority is kept with attribute 2 or 3 alone.
   abbrev pub cre-mbx : Effect
@@ -87,7 +87,7 @@ module _ (e : Environment) (v : View) (c : Call) where
 
   -- 15
   abbrev pub rcv-mbx : Effect
-  rcv-mbx = receive-until Never
+  rcv-mbx = receive-message-until Never
 
   -- 16
   abbrev pub prcv-mbx : Effect
@@ -95,7 +95,7 @@ module _ (e : Environment) (v : View) (c : Call) where
 
   -- 17
   abbrev pub trcv-mbx : Effect
-  trcv-mbx = receive-until (end-of (e .counter) (c .tmout))
+  trcv-mbx = receive-message-until (end-of (e .counter) (c .tmout))
 
   -- 18: none reads as 0.
   abbrev pub ref-mbx : Effect

@@ -4,8 +4,7 @@ use Prim.Native.Nat.{ℕ}
 use lib.Dec.{T}
 use Rattle.lists.proofs.Each.{each-of-all}
 use Rattle.model.specs.Rows.{task, suspension, queue, mailbox, message, valid, Environment, Effect}
-use Rattle.model.specs.Calls.{names-task, reads-suspension, names-queue, names-mailbox, names-message, message-of, View, view-of}
-use Rattle.model.specs.Errors.{task-only}
+use Rattle.model.specs.Calls.{names-task, reads-suspension, names-queue, names-mailbox, names-message, message-of, View, view-of, task-only}
 use Rattle.model.specs.Engine.{Performs}
 use Rattle.model.specs.declared.Answer.{Answer}
 use Rattle.model.specs.declared.Call.{Call}
