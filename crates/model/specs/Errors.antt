@@ -5,15 +5,15 @@ use lib.Dec.{eqb, ltb}
 use lib.IntN.{ℤ, pos, negsuc}
 use lib.Signed.{ltZ}
 use Rattle.lists.specs.Lists.{empty}
-use Rattle.model.specs.Sizes.{call-limit, task-limit, capacity-limit, priority-limit, tmout-limit, within}
 use Rattle.rows.specs.Program.{if_then_else_}
+use Rattle.model.specs.Sizes.{call-limit, task-limit, capacity-limit, priority-limit, tmout-limit, within}
 use Rattle.model.specs.Rows.{task, queue, mailbox, message, valid, has-room, messages-by-priority, Effect}
 use Rattle.model.specs.Waits.{able}
 use Rattle.model.specs.Codes.{Code, E-OK, E-SYS, E-PAR, E-ID, E-CTX, E-ILUSE, E-OBJ, E-NOEXS, E-QOVR, E-TMOUT, minus, refuse}
-use Rattle.model.specs.Calls.{Call, is-tick, task-only, creates, defines-task, creates-queue, creates-mailbox, sends-for-room, sends-forced, receives-word}
-use Rattle.model.specs.Calls.{receives-message, may-wait, polls-by-name, has-tmout, releases, suspends, resumes, fetches, names-task, names-queue}
-use Rattle.model.specs.Calls.{names-mailbox, names-message, message-of, capacity-of, task-priority-of, highest-of, message-priority-of, CallerView}
-use Rattle.model.specs.Calls.{View}
+use Rattle.model.specs.Calls.{Call, is-tick, task-only, creates, defines-task, creates-queue, creates-mailbox, sends-for-room, sends-forced}
+use Rattle.model.specs.Calls.{receives-word, receives-message, may-wait, polls-by-name, has-tmout, releases, suspends, resumes, fetches, names-task}
+use Rattle.model.specs.Calls.{names-queue, names-mailbox, names-message, message-of, capacity-of, task-priority-of, highest-of, message-priority-of}
+use Rattle.model.specs.Calls.{CallerView, View}
 
 -- ── Step 0 ──
 
@@ -27,7 +27,7 @@ unknown-in-table c = is-tick c || unknown c
 
 -- ── Step 1 ──
 
--- "State not sound" is asked of the record, before this table (crate record, Step.antt: `Stepped`): rows can't be unsound. Then:
+-- "State not sound" is asked of the record, before this table (Engine.antt: `Stepped`): rows can't be unsound. Then:
 unfoldable pub caller-cannot-call : CallerView → Call → Bool
 caller-cannot-call caller c =
     not (eqb (c .caller) 0)
