@@ -10,7 +10,7 @@ use Rattle.model.specs.Calls.{View}
 use Rattle.model.specs.declared.Call.{Call}
 use Rattle.model.specs.declared.Code.{Code}
 use Rattle.model.specs.Errors.{ErrorRow, rows-to-step-4, rows-from-step-5, error-table, some-applies, first-that-applies, refused, refusal}
-use Rattle.model.proofs.Tests.{or-left, or-right}
+use Rattle.model.proofs.Tests.{or-left, or-right, is-false}
 use Rattle.errors.specs.declared.Seen.{Seen}
 use Rattle.errors.specs.Seen.{Shows, is-ok}
 
@@ -38,10 +38,6 @@ Refuses row = T (not (is-ok (row .code)))
 table-refuses : (v : View) (c : Call) → Each Refuses (error-table v c)
 unfolding error-table rows-to-step-4 rows-from-step-5 every
 table-refuses v c = each-of-every (λ row. not (is-ok (row .code))) (error-table v c) tt
-
-is-false : (b : Bool) → T (not b) → b ≡ false
-is-false true t = absurd t
-is-false false t = refl
 
 -- With one row more ahead.
 row-more : (applies : Bool) (code rest : Code) (other : Bool) → T (not (is-ok code)) → is-ok rest ≡ not other → is-ok (cond applies code rest) ≡ not (applies || other)

@@ -33,7 +33,7 @@ use Rattle.model.specs.Answers.{is-wait, WaitsExactly, PollsNeverWait, P
 use Rattle.model.specs.declared.Answer.{Answer}
 use Rattle.model.specs.declared.Outcome.{Outcome}
 use Rattle.model.specs.declared.Outcome.the-variants.{Finished, Waits}
-use Rattle.model.proofs.Tests.{from-within, or-left, neither, neither-right, not-both}
+use Rattle.model.proofs.Tests.{is-false, from-within, or-left, neither, neither-right, not-both}
 use Rattle.model.proofs.Choices.{cond-yes}
 use Rattle.model.proofs.Step.{numbered, step-tick, step-call, run-accepted}
 use Rattle.model.proofs.Accepted.{passes, Accepted, accepted}
@@ -211,20 +211,16 @@ is-true : (b : Bool) → T b → true ≡ b
 is-true true t = refl
 is-true false t = absurd t
 
-is-false : (b : Bool) → T (not b) → false ≡ b
-is-false true t = absurd t
-is-false false t = refl
-
 -- The test by which a call waits, where its number, the error table or the state decides it.
 module _ (a r w : Bool) where
   by-number : T (not a) → false ≡ (a && not r && w)
-  by-number t = is-false (a && not r && w) (not-first (a && not r) w (not-first a (not r) t))
+  by-number t = sym (is-false (a && not r && w) (not-first (a && not r) w (not-first a (not r) t)))
 
   if-refused : T r → false ≡ (a && not r && w)
-  if-refused t = is-false (a && not r && w) (not-first (a && not r) w (not-second a (not r) (not-not r t)))
+  if-refused t = sym (is-false (a && not r && w) (not-first (a && not r) w (not-second a (not r) (not-not r t))))
 
   if-served : T (not w) → false ≡ (a && not r && w)
-  if-served t = is-false (a && not r && w) (not-second (a && not r) w t)
+  if-served t = sym (is-false (a && not r && w) (not-second (a && not r) w t))
 
   if-accepted : T (not r) → (a && w) ≡ (a && not r && w)
   if-accepted t = ap (λ b. b && w) (sym (ap (λ b. a && b) (sym (is-true (not r) t)) ∙ and-true a))
@@ -244,7 +240,7 @@ waits-exactly m c = step-says (λ a. is-wait (a .outcome) ≡ (may-wait c && not
     (λ t r code. if-refused (may-wait c) (refused v c) (would-wait v c) r)
     (λ t r. record {
       waited = λ w h n k. is-true _ w ∙ if-accepted (may-wait c) (refused v c) (would-wait v c) r;
-      served = λ w h code x y z. is-false _ w ∙ if-accepted (may-wait c) (refused v c) (would-wait v c) r;
+      served = λ w h code x y z. sym (is-false _ w) ∙ if-accepted (may-wait c) (refused v c) (would-wait v c) r;
       sent = λ h n k. by-number (may-wait c) (refused v c) (would-wait v c) (no-send-waits (c .number) h);
     })
   where

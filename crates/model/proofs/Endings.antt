@@ -13,6 +13,7 @@ use lib.ListN.{length}
 use borrow.Author.Tests.{ne-eqb}
 use mir.Facts.{T-not-not, and-yes, or-yes, yes-and}
 use Rattle.lists.specs.Lists.{Each, none as no-more, both, empty, one-of, ascending}
+use Rattle.lists.specs.Options.{absent}
 use Rattle.lists.proofs.Each.{each-of-all}
 use Rattle.lists.proofs.Members.{is-one-of}
 use Rattle.lists.proofs.Stands.{in-head}
@@ -31,7 +32,7 @@ use Rattle.model.specs.Step.{effect, step}
 use Rattle.model.specs.WellFormed.{WellFormedRows, WellFormed}
 use Rattle.model.specs.Answers.{is-wait}
 use Rattle.model.specs.WaitQueues.{standing-in}
-use Rattle.model.specs.Endings.{is-waiting, wait-ended, CodeAndWord, ended-with, WaitEnd, add-end, ends-among, ended-waits, Cause, is-head, causes, first-cause, takes-effect, due-to, row-after, wait-begins, begun-wait, defines, WaitsEndAsDue, EndedWaitsAreDue, is-some, TickCountsEnds}
+use Rattle.model.specs.Endings.{is-waiting, wait-ended, CodeAndWord, ended-with, WaitEnd, add-end, ends-among, ended-waits, Cause, is-head, causes, first-cause, takes-effect, due-to, row-after, wait-begins, begun-wait, defines, WaitsEndAsDue, EndedWaitsAreDue, TickCountsEnds}
 use Rattle.model.specs.declared.Answer.{Answer}
 use Rattle.model.proofs.Tests.{from-within, or-left, or-right, not-both-left}
 use Rattle.model.proofs.Choices.{cond-yes, cond-no}
@@ -187,17 +188,17 @@ released-waits m c ok =
     subst (λ (x : TaskRow). T (not (able (x .wait)))) (shown-task m (numbered 19 c) tt (a .task-in tt)) (task-waits (passes (view-of m (numbered 19 c)) (numbered 19 c) ok) tt)
 
 module _ (m : Model) (c : Call) (t : ℕ) (w : WellFormed m) (no-wait : T (not (is-waiting (m .rows) t))) where
-  absent : (k : WaitQueue) → In t (standing-in (m .rows) k) → ⊥
-  absent k i = T-not (is-waiting (m .rows) t) no-wait (named-waits (m .rows (task t) .wait) k (w .rows .waiting .no-other t k i))
+  not-in : (k : WaitQueue) → In t (standing-in (m .rows) k) → ⊥
+  not-in k i = T-not (is-waiting (m .rows) t) no-wait (named-waits (m .rows (task t) .wait) k (w .rows .waiting .no-other t k i))
 
   not-sending : In t (view-of m c .the-queue .senders) → ⊥
-  not-sending = some-queue-shown m c (λ (x : QueueRow). In t (x .senders) → ⊥) (λ q. absent (senders-of q)) List·Memᴰ·not-nil
+  not-sending = some-queue-shown m c (λ (x : QueueRow). In t (x .senders) → ⊥) (λ q. not-in (senders-of q)) List·Memᴰ·not-nil
 
   not-receiving : In t (view-of m c .the-queue .receivers) → ⊥
-  not-receiving = some-queue-shown m c (λ (x : QueueRow). In t (x .receivers) → ⊥) (λ q. absent (receivers-of q)) List·Memᴰ·not-nil
+  not-receiving = some-queue-shown m c (λ (x : QueueRow). In t (x .receivers) → ⊥) (λ q. not-in (receivers-of q)) List·Memᴰ·not-nil
 
   not-at-mailbox : In t (view-of m c .the-mailbox .waiters) → ⊥
-  not-at-mailbox = some-mailbox-shown m c (λ (x : MailboxRow). In t (x .waiters) → ⊥) (λ b. absent (waiters-of b)) List·Memᴰ·not-nil
+  not-at-mailbox = some-mailbox-shown m c (λ (x : MailboxRow). In t (x .waiters) → ⊥) (λ b. not-in (waiters-of b)) List·Memᴰ·not-nil
 
   not-released : T (takes-effect m c) → T (eqb (c .number) 19) → t ≡ c .object → ⊥
   not-released h n e = T-not (is-waiting (m .rows) t) no-wait (subst (λ j. T (is-waiting (m .rows) j)) (sym e)
@@ -272,13 +273,13 @@ read-ended x y g waited rested = go (able (x .wait)) (λ h. h) waited rested
     go true own h k = sym (k tt)
     go false own h k = subst (λ (z : TaskRow). cond (not (not (able (z .wait)))) (some (record { code = z .code; word = z .word })) none ≡ g) (sym (h tt)) (kept g (own tt))
 
-given-if : (b : Bool) (e : CodeAndWord) → is-some (cond b (some e) none) ≡ b
+given-if : (b : Bool) (e : CodeAndWord) → not (absent (cond b (some e) none)) ≡ b
 given-if true e = refl
 given-if false e = refl
 
 pub ended-waits-are-due : EndedWaitsAreDue
 ended-waits-are-due m c w = record {
-  where-due = λ t. sym (given-if (wait-ended (m .rows) (step m c .state .rows) t) _) ∙ ap is-some (each t);
+  where-due = λ t. sym (given-if (wait-ended (m .rows) (step m c .state .rows) t) _) ∙ ap (λ (e : Option CodeAndWord). not (absent e)) (each t);
   as-due = each;
   all-as-due = ap (λ given. ends-among given (ascending 1 task-limit)) (fun-ext each);
 }

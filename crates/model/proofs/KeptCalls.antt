@@ -46,10 +46,10 @@ seen m c v = record {
 }
 
 -- A row that is named and valid is read.
-named-row : {X : Type 0} (ok : ℕ → Bool) (f : ℕ → X) (d : X) (is-named : Bool) (n : ℕ) → (T is-named → T (ok n))
+own-row : {X : Type 0} (ok : ℕ → Bool) (f : ℕ → X) (d : X) (is-named : Bool) (n : ℕ) → (T is-named → T (ok n))
     → cond is-named (f n) (cond (ok (cond is-named n 0)) (f (cond is-named n 0)) d) ≡ cond (ok (cond is-named n 0)) (f (cond is-named n 0)) d
-named-row ok f d true n h = sym (cond-yes (ok n) (f n) d (h tt))
-named-row ok f d false n h = refl
+own-row ok f d true n h = sym (cond-yes (ok n) (f n) d (h tt))
+own-row ok f d false n h = refl
 
 caller-row : {X : Type 0} (x d : X) (b ok : Bool) → (T b → T ok) → cond b x (cond ok x d) ≡ cond ok x d
 caller-row x d true ok h = sym (cond-yes ok x d (h tt))
@@ -61,11 +61,11 @@ rows-are-seen m c a = λ i. record {
     row = caller-row (m (task (c .caller))) no-task (task-only c) (valid (task (c .caller))) (a .caller-in) i;
     suspended = rows-seen m c .caller .suspended;
   };
-  the-task = named-row (λ n. valid (task n)) (λ n. m (task n)) no-task (names-task c) (c .object) (a .task-in) i;
+  the-task = own-row (λ n. valid (task n)) (λ n. m (task n)) no-task (names-task c) (c .object) (a .task-in) i;
   suspended = rows-seen m c .suspended;
-  the-queue = named-row (λ n. valid (queue n)) (λ n. m (queue n)) no-queue (names-queue c) (c .object) (a .queue-in) i;
-  the-mailbox = named-row (λ n. valid (mailbox n)) (λ n. m (mailbox n)) no-mailbox (names-mailbox c) (c .object) (a .mailbox-in) i;
-  the-message = named-row (λ n. valid (message n)) (λ n. m (message n)) free (names-message c) (message-of c) (a .message-in) i;
+  the-queue = own-row (λ n. valid (queue n)) (λ n. m (queue n)) no-queue (names-queue c) (c .object) (a .queue-in) i;
+  the-mailbox = own-row (λ n. valid (mailbox n)) (λ n. m (mailbox n)) no-mailbox (names-mailbox c) (c .object) (a .mailbox-in) i;
+  the-message = own-row (λ n. valid (message n)) (λ n. m (message n)) free (names-message c) (message-of c) (a .message-in) i;
 }
 
 view-seen : (m : Model) (c : Call) → Accepted Valid c → seen (m .rows) c (view-of m c) ≡ view-of m c

@@ -1,4 +1,5 @@
 -- What a passed or failed test says of its parts, where the library has no such law: by cases on the first part.
+use mathlib.Core.Path.{_≡_, refl}
 use mathlib.Core.Bool.{Bool, true, false, not, _&&_, _||_}
 use Prim.Native.Nat.{ℕ, _≤_}
 use lib.Dec.{T, leb, leb→le, le→leb}
@@ -35,6 +36,10 @@ or-left false b t = absurd t
 pub or-right : (a b : Bool) → T b → T (a || b)
 or-right true b t = tt
 or-right false b t = t
+
+pub is-false : (b : Bool) → T (not b) → b ≡ false
+is-false true t = absurd t
+is-false false t = refl
 
 -- A number within two limits, as a test and as two facts.
 pub from-within : (low high n : ℕ) → T (within low high n) → (low ≤ n) × (n ≤ high)

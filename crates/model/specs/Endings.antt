@@ -1,6 +1,6 @@
 -- Document 01, "A wait ends later with .." and "Task states and ticks": with which code and word each wait ends, and when at the latest.
 use mathlib.Core.Path.{_≡_}
-use mathlib.Core.Bool.{Bool, true, false, not, _&&_, _||_, cond}
+use mathlib.Core.Bool.{Bool, true, not, _&&_, _||_, cond}
 use mathlib.Core.List.{List, [], _∷_, headD}
 use mathlib.Core.Option.{Option, none, some}
 use Prim.Native.Nat.{ℕ, suc, _+_, _%_, _≤_}
@@ -8,6 +8,7 @@ use lib.Dec.{T, eqb}
 use lib.IntN.{pos}
 use lib.ListN.{length}
 use Rattle.lists.specs.Lists.{empty, one-of, ascending}
+use Rattle.lists.specs.Options.{absent}
 use Rattle.rows.specs.Program as Program
 use Rattle.rows.specs.Runs.{end}
 use Rattle.model.specs.Sizes.{task-limit, counter-span}
@@ -145,13 +146,9 @@ abbrev pub WaitsEndAsDue : Type 0
 WaitsEndAsDue = (m : Model) (c : Call) (t : ℕ) → WellFormed m → EndsAsDue m c t
 
 -- The same of the waits that ended, read off the states before and after.
-abbrev pub is-some : Option CodeAndWord → Bool
-is-some none = false
-is-some (some e) = true
-
 pub record EndedAreDue (m : Model) (c : Call) : Type 0 where
   -- A wait has ended exactly where something was due to it,
-  pub where-due : (t : ℕ) → wait-ended (m .rows) (step m c .state .rows) t ≡ is-some (due-to m c t)
+  pub where-due : (t : ℕ) → wait-ended (m .rows) (step m c .state .rows) t ≡ not (absent (due-to m c t))
   -- with the code and word that were due;
   pub as-due : (t : ℕ) → ended-with (m .rows) (step m c .state .rows) t ≡ due-to m c t
   -- and so are all of them, in ascending task number.
