@@ -63,8 +63,10 @@ pub settled : {S : Type 0} {E : Engine S} → Lawful E → Settled E
 settled {E = E} lawful s s′ sound sound′ same c after after′ answer answer′ h h′ =
     let f = follows h sound in
     let f′ = follows h′ sound′ in
-    let m = lawful .equal-states s s′ sound sound′ .0 same in (
-      f .answer-is ∙ (ap (λ x. step x c .answer) m ∙ sym (f′ .answer-is)),
+    let m = lawful .equal-states s s′ sound sound′ .0 same in
+    let given : answer ≡ answer′ = f .answer-is ∙ (ap (λ x. step x c .answer) m ∙ sym (f′ .answer-is)) in (
+      given,
+      ap values given,
       lawful .equal-states after after′ (f .sound) (f′ .sound) .1 (f .meaning-is ∙ (ap (λ x. step x c .state) m ∙ sym (f′ .meaning-is))),
     )
 

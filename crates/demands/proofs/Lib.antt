@@ -1,6 +1,9 @@
 pub mod Runs
 pub mod Handled
 pub mod Conforms
+pub mod Waiting
 pub mod Isolated
 pub mod NoLostWakeUp
+pub mod TimeOuts
+pub mod StoredPair
 pub mod NoForeignEffect

@@ -64,13 +64,14 @@ module _ {S : Type 0} {E : Engine S} {s after : S} {c : Call} {answer : Answer} 
 
 -- ── However calls are made ──
 
--- Every step is one of the engine's, its call and its answer written otherwise.
+-- Every step is one of the engine's, its call and its answer written otherwise, and what is written has the same numbers.
 pub record Faithful {S C A : Type 0} (E : Engine S) (F : Interface S C A) : Type 0 where
   pub answer-of : Answer → A
+  pub values-are : (x : Answer) → F .values-of (answer-of x) ≡ values x
   pub steps : {s after : S} {c : C} {given : A} → F .Steps s c after given → SteppedAs E (F .call-of) answer-of s c after given
 
 pub by-value-faithful : {S : Type 0} (E : Engine S) → Faithful E (by-value E)
-by-value-faithful E = record { answer-of = λ x. x; steps = λ h. record { answer = _; stepped = h; given-is = refl } }
+by-value-faithful E = record { answer-of = λ x. x; values-are = λ x. refl; steps = λ h. record { answer = _; stepped = h; given-is = refl } }
 
 -- What f makes of each turn's call or answer.
 unfoldable pub each-turn : {I X Y : Type 0} → (X → Y) → List (I × X) → List (I × Y)

@@ -42,9 +42,9 @@ pub record ConformsSo {S : Type 0} (E : Engine S) (s : S) (c : Call) (after : S)
 abbrev pub Conforms : {S : Type 0} → Engine S → Type 0
 Conforms {S} E = (s : S) → E .Sound s → (c : Call) (after : S) (answer : Answer) → Stepped E s c after answer → ConformsSo E s c after answer
 
--- Nothing else is left open: equal states, with the same call, give the same answer and equal states.
+-- Nothing else is left open: equal states, with the same call, give the same answer, in document 01's numbers too, and equal states.
 abbrev pub Settled : {S : Type 0} → Engine S → Type 0
 Settled {S} E =
     (s s′ : S) → E .Sound s → E .Sound s′ → E .Same s s′
     → (c : Call) (after after′ : S) (answer answer′ : Answer) → Stepped E s c after answer → Stepped E s′ c after′ answer′
-    → (answer ≡ answer′) × E .Same after after′
+    → (answer ≡ answer′) × (values answer ≡ values answer′) × E .Same after after′

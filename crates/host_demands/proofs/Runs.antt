@@ -12,18 +12,6 @@ use Rattle.host_calls.specs.Calls.{answer-of}
 use Rattle.linguastel.specs.Called.{Called}
 use Rattle.host_demands.specs.Runs.{through-entry, host-values, HostValues, for-hosts, ListsRunThroughEntry, ListsRunForHosts}
 
-pub entry-faithful : Faithful state-engine through-entry
-entry-faithful = by-value-faithful state-engine
-
-pub hosts-faithful : Faithful state-engine for-hosts
-hosts-faithful = record { answer-of = answer-of; steps = λ h. h }
-
-pub lists-run-through-entry : ListsRunThroughEntry
-lists-run-through-entry = lists-run Entered
-
-pub lists-run-for-hosts : ListsRunForHosts
-lists-run-for-hosts = lists-run Called
-
 pub host-values-are : HostValues
 unfolding answer-of
 host-values-are x = go (x .outcome) (x .a) (x .b) (x .c)
@@ -31,3 +19,15 @@ host-values-are x = go (x .outcome) (x .a) (x .b) (x .c)
     go : (outcome : Outcome) (a b c : ℕ) → host-values (answer-of (record { outcome = outcome; a = a; b = b; c = c })) ≡ values (record { outcome = outcome; a = a; b = b; c = c })
     go (Finished code) a b c = refl
     go (Waits place) a b c = refl
+
+pub entry-faithful : Faithful state-engine through-entry
+entry-faithful = by-value-faithful state-engine
+
+pub hosts-faithful : Faithful state-engine for-hosts
+hosts-faithful = record { answer-of = answer-of; values-are = host-values-are; steps = λ h. h }
+
+pub lists-run-through-entry : ListsRunThroughEntry
+lists-run-through-entry = lists-run Entered
+
+pub lists-run-for-hosts : ListsRunForHosts
+lists-run-for-hosts = lists-run Called
