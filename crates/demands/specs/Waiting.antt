@@ -9,7 +9,7 @@ use Rattle.lists.specs.Lists.{ascending}
 use Rattle.model.specs.Sizes.{task-limit, message-limit}
 use Rattle.model.specs.Rows.{task, TaskRow}
 use Rattle.model.specs.Codes.{Values, values}
-use Rattle.model.specs.Calls.{may-wait, task-priority-of}
+use Rattle.model.specs.Calls.{may-wait, names-message, task-priority-of}
 use Rattle.model.specs.Waits.{starting, ended}
 use Rattle.model.specs.Errors.{refused, would-wait}
 use Rattle.model.specs.Answers.{is-wait}
@@ -55,7 +55,7 @@ pub record WaitsAsDueSo {S : Type 0} (E : Engine S) (s : S) (c : Call) (after : 
   pub waits-where : is-wait (answer .outcome) ≡ (may-wait c && not (refused (view-in E s c) c) && would-wait (view-in E s c) c)
   -- "Place is the number of waiters that stay ahead of it, 0 to 31"; and call 14's a is 0 to 63.
   pub place-below : (place : ℕ) → answer .outcome ≡ Waits place → place < task-limit
-  pub messages-ahead-below : T (eqb (c .number) 14) → answer .a < message-limit
+  pub messages-ahead-below : T (names-message c) → answer .a < message-limit
   -- The waits that have ended in `after`, in ascending task number, are those to which something was due, each with the code and word due to it;
   pub ended-as-due : ended-waits (E .abs s .rows) (E .abs after .rows) ≡ ends-among (due-to (E .abs s) c) (ascending 1 task-limit)
   -- and so it is task by task.
