@@ -7,6 +7,8 @@ use Rattle.rows.specs.Merge.{Merge, done, left, right, Separate}
 use Rattle.rows.specs.Merges.{keep-if, share, MergeOf, SeparateAll}
 use Rattle.model.specs.Step.{step}
 use Rattle.model.specs.Engine.{Engine, Lawful}
+use Rattle.model.specs.Isolation.{Carrier, ListsOfTwo}
+use Rattle.model.specs.declared.Call.{Call}
 use Rattle.model.proofs.Isolation.{isolation, isolation-from-empty, isolation-of-many}
 use Rattle.model.proofs.WellFormed.{well-formed-linked}
 use Rattle.record.specs.Step.{state-engine}
@@ -25,6 +27,9 @@ merge-map f (right m) = right (merge-map f m)
 each-read : {X Y : Type 0} {f : X → Y} (P : Y → Type 0) {l : List X} → Each (λ x. P (f x)) l → Each P (map f l)
 each-read P none = none
 each-read P (both p ps) = both p (each-read P ps)
+
+read-two : {C : Type 0} {call-of : C → Call} {a b : Carrier} {xs ys : List C} → ListsOfTwo call-of a b xs ys → ListsOfTwo (λ c. c) a b (map call-of xs) (map call-of ys)
+read-two two = record { disjoint = two .disjoint; calls-of-a = each-read _ (two .calls-of-a); calls-of-b = each-read _ (two .calls-of-b) }
 
 -- What of the turns is an owner's is what f makes of the owner's share.
 share-each : {I X Y : Type 0} (same-owner : Discrete I) (f : X → Y) (i : I) (turns : List (I × X)) → share same-owner i (each-turn f turns) ≡ map f (share same-owner i turns)
@@ -64,13 +69,13 @@ module _ {S C A : Type 0} {E : Engine S} (lawful : Lawful E) {F : Interface S C 
   pub isolated : Isolated E F
   isolated s sound a b placed-a placed-b xs ys two =
       undisturbed s sound xs ys
-      (isolation (E .abs s) (well-formed-linked (E .abs s) (lawful .well-formed s sound)) a b (two .disjoint) placed-a placed-b _ _ (each-read _ (two .calls-of-a)) (each-read _ (two .calls-of-b)))
+      (isolation (E .abs s) (well-formed-linked (E .abs s) (lawful .well-formed s sound)) a b placed-a placed-b _ _ (read-two two))
 
   pub isolated-from-empty : IsolatedFromEmpty E F
   isolated-from-empty s sound counter e a b xs ys two =
       undisturbed s sound xs ys
       (subst (λ m. Separate step m (map (F .call-of) xs) (map (F .call-of) ys)) (sym e)
-      (isolation-from-empty counter a b (two .disjoint) _ _ (each-read _ (two .calls-of-a)) (each-read _ (two .calls-of-b))))
+      (isolation-from-empty counter a b _ _ (read-two two)))
 
   pub isolated-many : IsolatedMany E F
   isolated-many I same-owner s sound o lists placed own = record {

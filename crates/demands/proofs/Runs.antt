@@ -16,6 +16,7 @@ use Rattle.model.specs.Codes.{values, finished}
 use Rattle.model.specs.Calls.{View, view-of}
 use Rattle.model.specs.Errors.{unknown, rows-to-step-4, error-table, some-applies, first-that-applies, refused, refusal}
 use Rattle.model.specs.Step.{step}
+use Rattle.model.specs.WellFormed.{WellFormed}
 use Rattle.model.specs.Engine.{Engine, Follows, Stepped, SteppedAs}
 use Rattle.model.specs.declared.Answer.{Answer}
 use Rattle.model.specs.declared.Call.{Call}
@@ -23,8 +24,9 @@ use Rattle.model.specs.declared.Code.the-variants.{Par as E-PAR}
 use Rattle.model.proofs.Tests.{or-left}
 use Rattle.model.proofs.Choices.{cond-yes}
 use Rattle.model.proofs.Refusals.{refusals}
+use Rattle.model.proofs.WellFormed.{kept-well-formed}
 use Rattle.record.specs.Step.{state-engine}
-use Rattle.demands.specs.Runs.{Run, no-call, one-call, RunOfTurns, no-turn, one-turn, SomeRun, SomeRunOfTurns, SomeStep, ListsRun, Interface, by-value}
+use Rattle.demands.specs.Runs.{Run, no-call, one-call, RunOfTurns, no-turn, one-turn, SomeRun, SomeRunOfTurns, SomeStep, ListsRun, model-engine, ModelsRun, ModelsRunAs, Interface, by-value}
 
 -- A number above 23 is unknown: the first row of the table applies.
 is-unknown : (c : Call) → call-limit < c .number → T (unknown c)
@@ -61,6 +63,40 @@ module _ {S : Type 0} {E : Engine S} {s after : S} {c : Call} {answer : Answer} 
 
   pub follows : Follows E s c after answer
   follows = elim (decLt call-limit (c .number)) [ yes above ↦ unknown-follows above | no known ↦ h .sound (omega arith) sound ]
+
+-- ── The definition as an engine ──
+
+model-steps : (m : Model) → WellFormed m → (c : Call) → Stepped model-engine m c (step m c .state) (step m c .answer)
+model-steps m w c = record {
+  unknown = λ above.
+      let by-row = refusals m c (no-tick (c .number) (omega arith)) .by-row (unknown-refused (view-of m c) c above) in
+      let answered = ap (λ (o : Program.Result Model Answer). o .answer) by-row ∙ ap (λ code. finished code 0 0 0) (unknown-refusal (view-of m c) c above) in
+      record { state-is = ap (λ (o : Program.Result Model Answer). o .state) by-row; finished-with = record { answer-is = answered; values-are = ap values answered } };
+  unsound = λ known no. absurd (no w);
+  sound = λ known sound. record {
+    answer-is = refl;
+    values-are = refl;
+    meaning-is = refl;
+    sound = kept-well-formed m c w;
+    unchanged = λ call refused-so. ap (λ (o : Program.Result Model Answer). o .state) (refusals m c call .by-row refused-so);
+  };
+}
+
+pub models-run : ModelsRun
+models-run m w [] = record { last = m; answers = []; run = no-call }
+models-run m w (c ∷ calls) =
+    let rest = models-run (step m c .state) (kept-well-formed m c w) calls in
+    record { last = rest .last; answers = step m c .answer ∷ rest .answers; run = one-call (model-steps m w c) (rest .run) }
+
+pub models-run-as : {C A : Type 0} (call-of : C → Call) (answer-of : Answer → A) → ModelsRunAs call-of answer-of
+models-run-as call-of answer-of m w [] = record { last = m; answers = []; run = no-call }
+models-run-as call-of answer-of m w (c ∷ calls) =
+    let rest = models-run-as call-of answer-of (step m (call-of c) .state) (kept-well-formed m (call-of c) w) calls in
+    record {
+      last = rest .last;
+      answers = answer-of (step m (call-of c) .answer) ∷ rest .answers;
+      run = one-call (record { answer = step m (call-of c) .answer; stepped = model-steps m w (call-of c); given-is = refl }) (rest .run);
+    }
 
 -- ── However calls are made ──
 

@@ -12,7 +12,7 @@ use Rattle.model.proofs.TimeOuts.{no-wait-outlives-time-out, no-wait-outlives-t
 use Rattle.record.specs.Step.{state-engine}
 use Rattle.record.proofs.Equal.{state-lawful}
 use Rattle.demands.specs.Runs.{Run, no-call, one-call, Interface, by-value}
-use Rattle.demands.specs.Waiting.{begins-wait}
+use Rattle.demands.specs.Waiting.{wait-begins-by}
 use Rattle.demands.specs.TimeOuts.{WaitsThroughout, TimeOutsKept}
 use Rattle.demands.proofs.Runs.{follows, Faithful, by-value-faithful, run-follows}
 use Rattle.demands.proofs.Waiting.{begins-as-defined}
@@ -27,7 +27,7 @@ module _ {S C A : Type 0} {E : Engine S} {F : Interface S C A} (faithful : Faith
       (w .0, subst (λ m. GoesOn t m (map (F .call-of) calls)) (f .meaning-is) (goes-on t (f .sound) rest (w .1)))
 
   -- A wait that begins in the answer's numbers begins in the definition's answer, and is the caller's.
-  begins-step : {s after : S} {c : C} {answer : A} → E .Sound s → F .Steps s c after answer → (t : ℕ) → T (begins-wait (F .call-of c) (F .values-of answer) t)
+  begins-step : {s after : S} {c : C} {answer : A} → E .Sound s → F .Steps s c after answer → (t : ℕ) → T (wait-begins-by (F .call-of c) (F .values-of answer) t)
       → T (is-wait (step (E .abs s) (F .call-of c) .answer .outcome)) × T (eqb t (F .call-of c .caller))
   begins-step {s} {c = c} sound h t b = and-yes (is-wait (step (E .abs s) (F .call-of c) .answer .outcome)) (eqb t (F .call-of c .caller)) (subst T (begins-as-defined faithful sound h t) b)
 

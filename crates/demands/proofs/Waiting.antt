@@ -18,7 +18,7 @@ use Rattle.model.proofs.Endings.{waits-end-as-due, ended-waits-are-due}
 use Rattle.record.specs.Step.{state-engine}
 use Rattle.record.proofs.Equal.{state-lawful}
 use Rattle.demands.specs.Runs.{Interface}
-use Rattle.demands.specs.Waiting.{task-in, begins-wait, TaskAsDue, WaitsAsDue}
+use Rattle.demands.specs.Waiting.{task-in, wait-begins-by, TaskAsDue, WaitsAsDue}
 use Rattle.demands.proofs.Runs.{follows, Faithful}
 
 -- Kind 1 is "waits".
@@ -26,15 +26,15 @@ waits-kind : (o : Outcome) → eqb (kind o) 1 ≡ is-wait o
 waits-kind (Finished code) = refl
 waits-kind (Waits place) = refl
 
-begins-as : (m : Model) (c : Call) (t : ℕ) → begins-wait c (values (step m c .answer)) t ≡ wait-begins m c t
+begins-as : (m : Model) (c : Call) (t : ℕ) → wait-begins-by c (values (step m c .answer)) t ≡ wait-begins m c t
 begins-as m c t = ap (λ b. b && eqb t (c .caller)) (waits-kind (step m c .answer .outcome))
 
 module _ {S : Type 0} {E : Engine S} (lawful : Lawful E) {s after : S} {c : Call} {answer : Answer} (h : Stepped E s c after answer) (sound : E .Sound s) where
   row-is : (t : ℕ) → task-in E after t ≡ row-after (E .abs s) c t
   row-is t = ap (λ (m : Model). m .rows (task t)) (follows h sound .meaning-is)
 
-  begins-is : (t : ℕ) → begins-wait c (values answer) t ≡ wait-begins (E .abs s) c t
-  begins-is t = ap (λ (x : Answer). begins-wait c (values x) t) (follows h sound .answer-is) ∙ begins-as (E .abs s) c t
+  begins-is : (t : ℕ) → wait-begins-by c (values answer) t ≡ wait-begins (E .abs s) c t
+  begins-is t = ap (λ (x : Answer). wait-begins-by c (values x) t) (follows h sound .answer-is) ∙ begins-as (E .abs s) c t
 
   task-as-due : (t : ℕ) → TaskAsDue E s c after answer t
   task-as-due t =
@@ -76,5 +76,5 @@ module _ {S C A : Type 0} {E : Engine S} {F : Interface S C A} (faithful : Faith
       ap (F .values-of) (k .given-is) ∙ (faithful .values-are (k .answer) ∙ follows (k .stepped) sound .values-are)
 
   pub begins-as-defined : {s after : S} {c : C} {answer : A} → E .Sound s → F .Steps s c after answer → (t : ℕ)
-      → begins-wait (F .call-of c) (F .values-of answer) t ≡ wait-begins (E .abs s) (F .call-of c) t
-  begins-as-defined {s} {c = c} sound h t = ap (λ x. begins-wait (F .call-of c) x t) (values-as-defined sound h) ∙ begins-as (E .abs s) (F .call-of c) t
+      → wait-begins-by (F .call-of c) (F .values-of answer) t ≡ wait-begins (E .abs s) (F .call-of c) t
+  begins-as-defined {s} {c = c} sound h t = ap (λ x. wait-begins-by (F .call-of c) x t) (values-as-defined sound h) ∙ begins-as (E .abs s) (F .call-of c) t

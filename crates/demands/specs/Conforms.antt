@@ -1,7 +1,7 @@
 -- Demand 2: each call and tick gives the code, result words, queues and task states that document 01 fixes. What it fixes is the definition `step` (crate
 -- model, Step.antt); what a record means is `abs` of its engine.
 use mathlib.Core.Path.{_≡_}
-use mathlib.Core.Bool.{true, not}
+use mathlib.Core.Bool.{not}
 use mathlib.Core.List.{List, _∷_}
 use mathlib.Core.Logic.{_≢_}
 use Prim.Native.Nat.{_≤_}

@@ -9,7 +9,7 @@ use Rattle.rows.specs.Merges.{share, MergeOf}
 use Rattle.model.specs.Rows.{empty-state}
 use Rattle.model.specs.Codes.{Values}
 use Rattle.model.specs.Engine.{Engine}
-use Rattle.model.specs.Isolation.{Placed, CallOf, Carrier, Own, Disjoint, Owners, OwnedBy}
+use Rattle.model.specs.Isolation.{Placed, CallOf, Carrier, Own, ListsOfTwo, Owners, OwnedBy}
 use Rattle.model.specs.declared.Call.{Call}
 use Rattle.demands.specs.Runs.{Run, RunOfTurns, Interface}
 
@@ -34,13 +34,6 @@ pub record Undisturbed {S C A : Type 0} (E : Engine S) (F : Interface S C A) (s 
       → Run (F .Steps) s zs last answers → Run (F .Steps) s zs′ last′ answers′ → E .Same last last′
   -- The end states are sound.
   pub end-sound : {turns : List Bool} {zs : List C} → Merge turns xs ys zs → {last : S} {answers : List A} → Run (F .Steps) s zs last answers → E .Sound last
-
--- Two carriers that have no number in common, each with any list of calls, of known number or not, refused ones too, but no tick, whose valid numbers are its
--- own.
-pub record ListsOfTwo {C : Type 0} (call-of : C → Call) (a b : Carrier) (xs ys : List C) : Type 0 where
-  pub disjoint : Disjoint a b
-  pub calls-of-a : Each (λ c. CallOf (Own a) (call-of c)) xs
-  pub calls-of-b : Each (λ c. CallOf (Own b) (call-of c)) ys
 
 -- From any sound state, two carriers, each one's waiting tasks and queued messages only in its own objects, and their lists.
 abbrev pub Isolated : {S C A : Type 0} → Engine S → Interface S C A → Type 0

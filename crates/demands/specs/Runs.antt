@@ -1,9 +1,12 @@
 -- Document 01, "What demand 3 compares": runs. Antt can't name a step of the code, only its contract; so what is said of every run whose steps keep the
 -- contract holds of the code's.
+use mathlib.Core.Path.{_≡_}
 use mathlib.Core.List.{List, [], _∷_}
 use Rattle.lists.specs.Lists.{Each}
+use Rattle.model.specs.Rows.{Model}
 use Rattle.model.specs.Codes.{Values, values}
-use Rattle.model.specs.Engine.{Engine, Stepped}
+use Rattle.model.specs.Engine.{Engine, Stepped, SteppedAs}
+use Rattle.model.specs.WellFormed.{WellFormed}
 use Rattle.model.specs.declared.Answer.{Answer}
 use Rattle.model.specs.declared.Call.{Call}
 
@@ -40,11 +43,22 @@ pub record SomeStep {S C A : Type 0} (Steps : S → C → S → A → Type 0) : 
   pub step : S → C → S × A
   pub keeps : (s : S) (c : C) → Record s → Sent c → Steps s c (step s c .0) (step s c .1) × Record (step s c .0)
 
--- There are runs: a step that keeps the contract runs every list of calls, and every list of turns.
+-- Wherever a step keeps the contract, as the code's does, it runs every list of calls, and every list of turns.
 pub record ListsRun {S C A : Type 0} (Steps : S → C → S → A → Type 0) : Type 1 where
   pub calls : (k : SomeStep Steps) (s : S) → k .Record s → (calls : List C) → Each (k .Sent) calls → SomeRun Steps s calls
   pub turns : (k : SomeStep Steps) (I : Type 0) (s : S) → k .Record s → (turns : List (I × C)) → Each (λ turn. k .Sent (turn .1)) turns
       → SomeRunOfTurns Steps s turns
+
+-- The definition is an engine too: its records are models, sound where they are well-formed. Its step keeps the contract, so every list of calls runs from
+-- every well-formed state, also with calls and answers written otherwise: the contract asks for nothing that can't be had.
+abbrev pub model-engine : Engine Model
+model-engine = record { abs = λ m. m; Readable = λ m. Unit; Sound = WellFormed; Same = λ m n. m ≡ n }
+
+abbrev pub ModelsRun : Type 0
+ModelsRun = (m : Model) → WellFormed m → (calls : List Call) → SomeRun (Stepped model-engine) m calls
+
+abbrev pub ModelsRunAs : {C A : Type 0} → (C → Call) → (Answer → A) → Type 0
+ModelsRunAs {C} call-of answer-of = (m : Model) → WellFormed m → (calls : List C) → SomeRun (SteppedAs model-engine call-of answer-of) m calls
 
 -- ── How calls are made ──
 

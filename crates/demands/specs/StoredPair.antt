@@ -9,13 +9,13 @@ use Rattle.model.specs.Codes.{finished-values}
 use Rattle.model.specs.Endings.{CodeAndWord, due-to, FetchOf}
 use Rattle.model.specs.Engine.{Engine}
 use Rattle.demands.specs.Runs.{Run, no-call, one-call, Interface}
-use Rattle.demands.specs.Waiting.{task-in, waits-in, begins-wait}
+use Rattle.demands.specs.Waiting.{task-in, waits-in, wait-begins-by}
 
 -- No wait of task t begins in the run: none of the task's calls in it is answered "waits".
 unfoldable pub NeverBegins : {S C A : Type 0} (F : Interface S C A) {s last : S} {calls : List C} {answers : List A}
     → ℕ → Run (F .Steps) s calls last answers → Type 0
 NeverBegins F t no-call = Unit
-NeverBegins F t (one-call {c = c} {answer = answer} h rest) = T (not (begins-wait (F .call-of c) (F .values-of answer) t)) × NeverBegins F t rest
+NeverBegins F t (one-call {c = c} {answer = answer} h rest) = T (not (wait-begins-by (F .call-of c) (F .values-of answer) t)) × NeverBegins F t rest
 
 -- From the record s on, an accepted fetch of task t gives this pair, after any run in which no wait of the task begins.
 abbrev pub FetchGives : {S C A : Type 0} → Engine S → Interface S C A → S → ℕ → CodeAndWord → Type 0

@@ -11,7 +11,7 @@ use Rattle.model.specs.Endings.{ticks}
 use Rattle.model.specs.Engine.{Engine}
 use Rattle.model.specs.declared.End.the-variants.{At}
 use Rattle.demands.specs.Runs.{Run, no-call, one-call, Interface}
-use Rattle.demands.specs.Waiting.{task-in, waits-in, begins-wait}
+use Rattle.demands.specs.Waiting.{task-in, waits-in, wait-begins-by}
 
 -- The wait goes on in every record of the run: task t waits in the first, in each that a call handed back or left, and so in the last.
 unfoldable pub WaitsThroughout : {S C A : Type 0} {Steps : S → C → S → A → Type 0} {s last : S} {calls : List C} {answers : List A}
@@ -27,7 +27,7 @@ pub record TimeOutsKept {S C A : Type 0} (E : Engine S) (F : Interface S C A) : 
       → WaitsThroughout E t run → ⊥
   -- So a wait begun with tmout n doesn't go on through n ticks after the call.
   pub none-outlives-tmout : (s : S) → E .Sound s → (c : C) (after : S) (answer : A) → F .Steps s c after answer
-      → (t n : ℕ) → T (begins-wait (F .call-of c) (F .values-of answer) t) → T (has-tmout (F .call-of c)) → F .call-of c .tmout ≡ pos n
+      → (t n : ℕ) → T (wait-begins-by (F .call-of c) (F .values-of answer) t) → T (has-tmout (F .call-of c)) → F .call-of c .tmout ≡ pos n
       → (calls : List C) (last : S) (answers : List A) (run : Run (F .Steps) after calls last answers)
       → n ≤ ticks (map (F .call-of) calls)
       → WaitsThroughout E t run → ⊥

@@ -29,9 +29,9 @@ task-in E s t = E .abs s .rows (task t)
 abbrev pub waits-in : {S : Type 0} → Engine S → S → ℕ → Bool
 waits-in E s t = is-waiting (E .abs s .rows) t
 
--- A wait of task t begins: the call is the task's, and the answer is "waits", which is kind 1.
-abbrev pub begins-wait : Call → Values → ℕ → Bool
-begins-wait c x t = eqb (x .kind) 1 && eqb t (c .caller)
+-- By this answer a wait of task t begins: the call is the task's, and the answer is "waits", which is kind 1.
+abbrev pub wait-begins-by : Call → Values → ℕ → Bool
+wait-begins-by c x t = eqb (x .kind) 1 && eqb t (c .caller)
 
 -- What a step that gave `after` and the answer did to task t.
 pub record TaskAsDue {S : Type 0} (E : Engine S) (s : S) (c : Call) (after : S) (answer : Answer) (t : ℕ) : Type 0 where
@@ -42,12 +42,12 @@ pub record TaskAsDue {S : Type 0} (E : Engine S) (s : S) (c : Call) (after : S) 
   -- To a task that doesn't wait nothing is due.
   pub nothing-due : T (not (waits-in E s t)) → due-to (E .abs s) c t ≡ none
   -- Where a call of such a task is answered "waits", its wait begins, at the object that the call names, and its stored pair is set to 0 and 0.
-  pub begins : T (begins-wait c (values answer) t) → T (not (waits-in E s t)) × (task-in E after t ≡ starting (begun-wait (E .abs s) c) (task-in E s t))
+  pub begins : T (wait-begins-by c (values answer) t) → T (not (waits-in E s t)) × (task-in E after t ≡ starting (begun-wait (E .abs s) c) (task-in E s t))
   -- A new task doesn't wait, and its stored pair is 0 and 0.
   pub defined : T (defines (E .abs s) c t)
       → T (not (task-in E s t .defined)) × (task-in E after t ≡ record { defined = true; priority = task-priority-of c; wait = NoWait; code = E-OK; word = 0 })
   -- In any other step a task that doesn't wait stays as it was, with its stored pair. So no other wait begins.
-  pub stays : T (not (waits-in E s t)) → T (not (begins-wait c (values answer) t)) → T (not (defines (E .abs s) c t)) → task-in E after t ≡ task-in E s t
+  pub stays : T (not (waits-in E s t)) → T (not (wait-begins-by c (values answer) t)) → T (not (defines (E .abs s) c t)) → task-in E after t ≡ task-in E s t
 
 -- The sound record s with the call or tick c gave `after` and the answer.
 pub record WaitsAsDueSo {S : Type 0} (E : Engine S) (s : S) (c : Call) (after : S) (answer : Answer) : Type 0 where

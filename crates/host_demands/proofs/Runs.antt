@@ -6,11 +6,11 @@ use Rattle.model.specs.declared.Answer.{Answer}
 use Rattle.model.specs.declared.Outcome.{Outcome}
 use Rattle.model.specs.declared.Outcome.the-variants.{Finished, Waits}
 use Rattle.record.specs.Step.{state-engine}
-use Rattle.demands.proofs.Runs.{Faithful, by-value-faithful, lists-run}
+use Rattle.demands.proofs.Runs.{Faithful, by-value-faithful, lists-run, models-run-as}
 use Rattle.entry.specs.Entered.{Entered}
-use Rattle.host_calls.specs.Calls.{answer-of}
+use Rattle.host_calls.specs.Calls.{call-of, answer-of}
 use Rattle.linguastel.specs.Called.{Called}
-use Rattle.host_demands.specs.Runs.{through-entry, host-values, HostValues, for-hosts, ListsRunThroughEntry, ListsRunForHosts}
+use Rattle.host_demands.specs.Runs.{through-entry, host-values, HostValues, for-hosts, ListsRunThroughEntry, ListsRunForHosts, ModelsRunForHosts}
 
 pub host-values-are : HostValues
 unfolding answer-of
@@ -31,3 +31,6 @@ lists-run-through-entry = lists-run Entered
 
 pub lists-run-for-hosts : ListsRunForHosts
 lists-run-for-hosts = lists-run Called
+
+pub models-run-for-hosts : ModelsRunForHosts
+models-run-for-hosts = models-run-as call-of answer-of

@@ -8,7 +8,7 @@ use Rattle.model.specs.Codes.{Values, values}
 use Rattle.model.specs.declared.Answer.{Answer}
 use Rattle.model.specs.declared.Call.{Call}
 use Rattle.record.specs.declared.State.{State}
-use Rattle.demands.specs.Runs.{ListsRun, Interface}
+use Rattle.demands.specs.Runs.{ListsRun, ModelsRunAs, Interface}
 use Rattle.entry.specs.Entered.{Entered}
 use Rattle.host_calls.specs.Calls.{call-of, answer-of}
 use Rattle.host_calls.specs.declared.HostAnswer.{HostAnswer}
@@ -31,9 +31,12 @@ HostValues = (x : Answer) → host-values (answer-of x) ≡ values x
 abbrev pub for-hosts : Interface State HostCall HostAnswer
 for-hosts = record { call-of = call-of; values-of = host-values; Steps = Called }
 
--- There are such runs.
+-- The same of steps through the entry and of hosts' calls; and there are runs in the host's numbers.
 abbrev pub ListsRunThroughEntry : Type 1
 ListsRunThroughEntry = ListsRun Entered
 
 abbrev pub ListsRunForHosts : Type 1
 ListsRunForHosts = ListsRun Called
+
+abbrev pub ModelsRunForHosts : Type 0
+ModelsRunForHosts = ModelsRunAs call-of answer-of

@@ -154,11 +154,11 @@ owner-is a b (mailbox n) = refl
 owner-is a b (message n) = refl
 
 pub isolation : Isolation
-isolation m linked a b apart placed-a placed-b xs ys own-a own-b =
+isolation m linked a b placed-a placed-b xs ys two =
     two-of same-who first second differ step m xs ys
     (isolation-of-many Who same-who m linked (owners a b) (two-lists same-who first second xs ys)
     (each-caller same-who first second differ (λ i. Placed (OwnedBy (owners a b) i) (m .rows)) xs ys (placed-into in-a of-a (m .rows) placed-a) (placed-into in-b of-b (m .rows) placed-b))
-    (each-list same-who first second differ (λ i. CallOf (OwnedBy (owners a b) i)) (each-map (call-into in-a) own-a) (each-map (call-into in-b) own-b)))
+    (each-list same-who first second differ (λ i. CallOf (OwnedBy (owners a b) i)) (each-map (call-into in-a) (two .calls-of-a)) (each-map (call-into in-b) (two .calls-of-b))))
   where
     differ : first ≡ second → ⊥
     differ e = let z : _≡_ {A = ℕ} 0 1 = cc in omega arith
@@ -170,7 +170,7 @@ isolation m linked a b apart placed-a placed-b xs ys own-a own-b =
     of-a k h = of-first (owns a k) (owns b k) (sym (owner-is a b k) ∙ h)
 
     in-b : (k : Key) → Own b k → OwnedBy (owners a b) second k
-    in-b k h = owner-is a b k ∙ is-second (owns a k) (owns b k) (apart k) h
+    in-b k h = owner-is a b k ∙ is-second (owns a k) (owns b k) (two .disjoint k) h
 
     of-b : (k : Key) → OwnedBy (owners a b) second k → Own b k
     of-b k h = of-second (owns a k) (owns b k) (sym (owner-is a b k) ∙ h)
@@ -185,5 +185,4 @@ unfolding QueuedIn
 placed-empty S = record { tasks = λ t h. tt; messages = λ g h t. absurd t }
 
 pub isolation-from-empty : IsolationFromEmpty
-isolation-from-empty counter a b apart xs ys own-a own-b =
-    isolation (empty-state counter) linked-empty a b apart (placed-empty (Own a)) (placed-empty (Own b)) xs ys own-a own-b
+isolation-from-empty counter a b xs ys two = isolation (empty-state counter) linked-empty a b (placed-empty (Own a)) (placed-empty (Own b)) xs ys two

@@ -13,7 +13,7 @@ pub use Rattle.model.specs.declared.Call.{Call}
 
 -- ── Which call it is ──
 
--- Number 0 is no call but the tick.
+-- Number 0 is the tick, which is no call.
 abbrev pub is-tick : Call → Bool
 is-tick c = eqb (c .number) 0
 
@@ -54,7 +54,7 @@ deletes-queue c = eqb (c .number) 3
 abbrev pub deletes-mailbox : Call → Bool
 deletes-mailbox c = eqb (c .number) 13
 
--- Sends to a data queue: snd, psnd and tsnd, which have to wait for room, and fsnd, the forced send.
+-- Sends to a data queue: snd, psnd and tsnd, which need a receiver or room, and fsnd, the forced send.
 abbrev pub sends-for-room : Call → Bool
 sends-for-room c = within 4 6 (c .number)
 
@@ -68,7 +68,7 @@ receives-word c = within 8 10 (c .number)
 abbrev pub receives-message : Call → Bool
 receives-message c = within 15 17 (c .number)
 
--- Of these three kinds the calls that may wait, those that poll, and those with a tmout.
+-- Of snd, psnd, tsnd and the receives: those that may wait, those that poll, and those with a tmout.
 abbrev pub may-wait : Call → Bool
 may-wait c = calls c (4 ∷ 6 ∷ 8 ∷ 10 ∷ 15 ∷ 17 ∷ [])
 
@@ -82,7 +82,7 @@ has-tmout c = calls c (6 ∷ 10 ∷ 17 ∷ [])
 abbrev pub task-only : Call → Bool
 task-only c = calls c (3 ∷ 4 ∷ 6 ∷ 8 ∷ 10 ∷ 13 ∷ 15 ∷ 17 ∷ [])
 
--- Calls on a task: rel_wai, sus_tsk, rsm_tsk, look and fetch; and those of them to which its suspension matters.
+-- Calls on a task: rel_wai, sus_tsk, rsm_tsk and fetch; and those to which its suspension matters: sus_tsk, rsm_tsk and look.
 abbrev pub releases : Call → Bool
 releases c = eqb (c .number) 19
 

@@ -56,7 +56,7 @@ pub record CallOf (S : Key → Type 0) (c : Call) : Type 0 where
 
 -- ── Two carriers ──
 
--- "Carrier" is document 01's word, for whoever uploads timetables: here, the numbers of the tasks, data queues, mailboxes and messages that are its own.
+-- "Carrier" is document 01's word for a party that makes calls: here, the numbers of the tasks, data queues, mailboxes and messages that are its own.
 pub record Carrier : Type 0 where
   pub tasks : ℕ → Bool
   pub queues : ℕ → Bool
@@ -77,20 +77,26 @@ Own a k = T (owns a k)
 abbrev pub Disjoint : Carrier → Carrier → Type 0
 Disjoint a b = (k : Key) → Own a k → Own b k → ⊥
 
+-- Two carriers that have no number in common, each with any list of calls, of known number or not, refused ones too, but no tick, whose valid numbers are its
+-- own. `call-of` says as which call each one is read.
+pub record ListsOfTwo {C : Type 0} (call-of : C → Call) (a b : Carrier) (xs ys : List C) : Type 0 where
+  pub disjoint : Disjoint a b
+  pub calls-of-a : Each (λ c. CallOf (Own a) (call-of c)) xs
+  pub calls-of-b : Each (λ c. CallOf (Own b) (call-of c)) ys
+
 -- Demand 3: from any linked state, for any two carriers and any list of calls of each, every merge answers as each list alone does, and all merges end
 -- in equal states.
 abbrev pub Isolation : Type 0
 Isolation =
     (m : Model) → Linked (m .rows)
-    → (a b : Carrier) → Disjoint a b → Placed (Own a) (m .rows) → Placed (Own b) (m .rows)
-    → (xs ys : List Call) → Each (CallOf (Own a)) xs → Each (CallOf (Own b)) ys
+    → (a b : Carrier) → Placed (Own a) (m .rows) → Placed (Own b) (m .rows)
+    → (xs ys : List Call) → ListsOfTwo (λ c. c) a b xs ys
     → Separate step m xs ys
 
 -- From the empty state, whatever the counter, nothing is asked of the state.
 abbrev pub IsolationFromEmpty : Type 0
 IsolationFromEmpty =
-    (counter : ℕ) (a b : Carrier) → Disjoint a b
-    → (xs ys : List Call) → Each (CallOf (Own a)) xs → Each (CallOf (Own b)) ys
+    (counter : ℕ) (a b : Carrier) (xs ys : List Call) → ListsOfTwo (λ c. c) a b xs ys
     → Separate step (empty-state counter) xs ys
 
 -- ── Any number of carriers ──

@@ -19,6 +19,8 @@ use Rattle.record.specs.Equal.{SameState}
 abbrev pub state-engine : Engine State
 state-engine = record { abs = abs; Readable = Readable; Sound = Sound; Same = SameState }
 
+-- The names of crate model follow, here of a `State` and the `Step` that is handed back.
+
 -- ── One call that is not refused ──
 
 abbrev pub Becomes : State → Program.Rows Row → State → Type 0

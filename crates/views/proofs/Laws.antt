@@ -20,7 +20,7 @@ use Rattle.errors.specs.declared.MailboxSeen.{MailboxSeen}
 use Rattle.errors.specs.declared.Seen.{Seen}
 use Rattle.model.specs.Sizes.{within}
 use Rattle.model.specs.Rows.{task, suspension, queue, mailbox, message, valid, Row, no-task, no-queue, no-mailbox, free, messages-by-priority}
-use Rattle.model.specs.Calls.{row-if-valid, view-of, names-task, reads-suspension, task-named, suspension-named, queue-named, mailbox-named, message-named}
+use Rattle.model.specs.Calls.{row-if-valid, names-task, reads-suspension, task-named, suspension-named, queue-named, mailbox-named, message-named}
 use Rattle.model.specs.Waits.{able, senders-of, receivers-of, waiters-of}
 use Rattle.model.specs.declared.Call.{Call}
 use Rattle.parts.specs.Chains.{tasks-in, messages-in}
@@ -39,7 +39,7 @@ use Rattle.cells.specs.Tasks.{defined-by, suspended-by, read-task}
 use Rattle.cells.proofs.Reading.{task-defined, task-suspended, task-wait, reads-able}
 use Rattle.record.specs.declared.State.{State}
 use Rattle.record.specs.Meaning.{task-at, queue-at, mailbox-at, mailbox-of, cells-of, abs}
-use Rattle.views.specs.Shown.{TaskShown, task-shown, suspension-shown, queue-shown, MailboxShown}
+use Rattle.views.specs.Shown.{SeenFor, TaskShown, task-shown, suspension-shown, queue-shown, MailboxShown}
 
 -- ── From the cells read to what is in view ──
 
@@ -140,16 +140,19 @@ pub sees : (s : State) (c : Call) {y : Seen}
     → ShowsQueue (row-if-valid (abs s .rows) (queue (queue-named c))) (y .queue)
     → ShowsMailbox (row-if-valid (abs s .rows) (mailbox (mailbox-named c))) (y .mailbox)
     → y .«message_free» ≡ eqb (row-if-valid (abs s .rows) (message (message-named c)) .queued-in) 0
-    → Shows (view-of (abs s) c) c y
-sees s c {y} e f g h i = subst (λ v. Shows v c y) (sym (view-is (abs s) c)) (record {
-  caller = e .shows;
-  caller-suspended = e .suspended;
-  task = f .shows;
-  suspended = λ t. f .suspended ∙ suspension-read (abs s .rows) c t;
-  queue = g;
-  mailbox = h;
-  free = i;
-})
+    → SeenFor (abs s) c y
+sees s c {y} e f g h i = record {
+  shows = subst (λ v. Shows v c y) (sym (view-is (abs s) c)) (record {
+    caller = e .shows;
+    caller-suspended = e .suspended;
+    task = f .shows;
+    suspended = λ t. f .suspended ∙ suspension-read (abs s .rows) c t;
+    queue = g;
+    mailbox = h;
+    free = i;
+  });
+  suspended = f .suspended;
+}
 
 -- A valid number, as two facts.
 pub valid-range : (limit n : ℕ) → within 1 limit n ≡ true → (1 ≤ n) × (n ≤ limit)

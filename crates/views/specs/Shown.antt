@@ -4,11 +4,14 @@ use mathlib.Core.Path.{_≡_}
 use mathlib.Core.Bool.{Bool, false, cond}
 use mathlib.Core.List.{List}
 use Prim.Native.Nat.{ℕ}
-use Rattle.errors.specs.Seen.{ShowsTask, ShowsMailbox}
+use Rattle.errors.specs.Seen.{ShowsTask, ShowsMailbox, Shows}
 use Rattle.errors.specs.declared.TaskSeen.{TaskSeen}
 use Rattle.errors.specs.declared.MailboxSeen.{MailboxSeen}
-use Rattle.model.specs.Rows.{task, queue, mailbox, valid, TaskRow, QueueRow, no-task, no-queue, no-mailbox}
+use Rattle.errors.specs.declared.Seen.{Seen}
+use Rattle.model.specs.Rows.{task, suspension, queue, mailbox, valid, Model, TaskRow, QueueRow, no-task, no-queue, no-mailbox}
 use Rattle.model.specs.Waits.{senders-of, receivers-of}
+use Rattle.model.specs.Calls.{row-if-valid, task-named, view-of}
+use Rattle.model.specs.declared.Call.{Call}
 use Rattle.parts.specs.Chains.{tasks-in, messages-in}
 use Rattle.parts.specs.Tasks.{task-row}
 use Rattle.parts.specs.Queues.{queue-row}
@@ -29,6 +32,11 @@ suspension-shown t x = cond (valid (task t)) (x .suspended) false
 
 abbrev pub queue-shown : ℕ → Queue → List ℕ → QueueRow
 queue-shown q x link = cond (valid (queue q)) (queue-row x (tasks-in link (senders-of q)) (tasks-in link (receivers-of q))) no-queue
+
+-- All that is seen for a call: what the error table asks of the rows in view, and whether the named task is suspended, whichever call names it.
+pub record SeenFor (m : Model) (c : Call) (y : Seen) : Type 0 where
+  pub shows : Shows (view-of m c) c y
+  pub suspended : y .task .suspended ≡ row-if-valid (m .rows) (suspension (task-named c))
 
 pub record MailboxShown (b : ℕ) (x : Mailbox) (link : List ℕ) (r : MailboxSeen) : Type 0 where
   pub shows : (waiters : List ℕ) → ShowsMailbox (cond (valid (mailbox b)) (mailbox-row x waiters (messages-in link b)) no-mailbox) r

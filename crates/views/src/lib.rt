@@ -5,13 +5,12 @@ ghost use mathlib.Core.Bool.{cond};
 ghost use lib.Dec.{eqb};
 ghost use Rattle.cells.specs.Tasks.{read-task};
 ghost use Rattle.chain.specs.Table as chain;
-ghost use Rattle.errors.specs.Seen.{ShowsQueue, Shows};
-ghost use Rattle.model.specs.Calls.{view-of};
+ghost use Rattle.errors.specs.Seen.{ShowsQueue};
 ghost use Rattle.model.specs.Sizes.{within};
 ghost use Rattle.parts.specs.Mailboxes.{kept-attribute};
 ghost use Rattle.record.specs.Meaning.{mailbox-of, abs};
 ghost use Rattle.record.specs.Sound.{Sound};
-ghost use Rattle.views.specs.Shown.{TaskShown, task-shown, suspension-shown, queue-shown, MailboxShown};
+ghost use Rattle.views.specs.Shown.{SeenFor, TaskShown, task-shown, suspension-shown, queue-shown, MailboxShown};
 use cells::TaskCells;
 use chain::CELLS;
 use errors::MailboxSeen;
@@ -160,7 +159,7 @@ fn see_message(number: u32, link: &[u8; CELLS]) -> bool
 
 pub fn see(state: State, call: Call) -> Seen
     requires { ⌜ Sound state ⌝ }
-    ensures { λ r. ⌜ Shows (view-of (abs state) call) call r ⌝ }
+    ensures { λ r. ⌜ SeenFor (abs state) call r ⌝ }
 {
     let caller = call.caller;
     let calling = state.tasks[cell_of(caller, TASKS as u8)];

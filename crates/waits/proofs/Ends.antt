@@ -39,7 +39,7 @@ use Rattle.record.specs.declared.State.{State}
 use Rattle.record.specs.Meaning.{task-at, abs}
 use Rattle.record.specs.Sound.{Readable, Sound}
 use Rattle.record.specs.Step.{Becomes}
-use Rattle.waits.specs.Waiting.{chain-list, ChainOf, OnChain, ended-wait, Endable, Ended, Clearable, Cleared}
+use Rattle.waits.specs.Waiting.{chain-list, ChainOf, OnChain, rows-with-wait-ended, Endable, Ended, Clearable, Cleared}
 use Rattle.record.proofs.Rows.{passes-or-not, row-is}
 use Rattle.record.proofs.Chains.{chain-range, ChainOwner, chain-owner, named-chain}
 use Rattle.record.proofs.Standing.{stands-from}
@@ -73,7 +73,7 @@ module _ {s : State} {t : ℕ} (a : Endable s t) where
         wait-is : abs s .rows (task t) .wait ≡ task-at s t .wait
         wait-is = ap (λ (x : TaskRow). x .wait) (row-is s (task t) (a .valid-task))
 
-        one : (k : WaitQueue) → wait-queue (abs s .rows (task t) .wait) ≡ some k → Becomes s (ended-wait t code k (abs s .rows)) (with-task t y (with-waiting link s))
+        one : (k : WaitQueue) → wait-queue (abs s .rows (task t) .wait) ≡ some k → Becomes s (rows-with-wait-ended t code k (abs s .rows)) (with-task t y (with-waiting link s))
         one k f =
             let n = named k (ap wait-queue (sym wait-is) ∙ f) in
             let c : Changed task-limit task-chains (chain-number k) (s .waiting .link) link (without t (chain-list s (chain-number k))) = rw (n .1) at (p .changed) in
@@ -103,7 +103,7 @@ module _ {s r : State} {t : ℕ} {code : Code} (waits : T (not (able (abs s .row
   abbrev somewhere : Somewhere (abs s .rows (task t) .wait)
   somewhere = waits-somewhere (abs s .rows (task t) .wait) waits
 
-  pub end-becomes : Becomes s (ended-wait t code (somewhere .queue-named) (abs s .rows)) r
+  pub end-becomes : Becomes s (rows-with-wait-ended t code (somewhere .queue-named) (abs s .rows)) r
   end-becomes = e .becomes (somewhere .queue-named) (somewhere .named)
 
   pub end-runs : (p : Effect) → run same-key (end-wait t code p) (abs s .rows) ≡ run same-key p (abs r .rows)

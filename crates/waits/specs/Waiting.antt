@@ -89,8 +89,8 @@ pub record Joined (s : State) (chain me : ℕ) (by-priority : Bool) (wait : Wait
 
 -- ── A task's wait ends, at whatever place ──
 
-abbrev pub ended-wait : ℕ → Code → WaitQueue → Program.Rows Row → Program.Rows Row
-ended-wait t code k m = update same-key (task t) (ended code 0 (m (task t))) (set-standing k (without t (standing-in m k)) m)
+abbrev pub rows-with-wait-ended : ℕ → Code → WaitQueue → Program.Rows Row → Program.Rows Row
+rows-with-wait-ended t code k m = update same-key (task t) (ended code 0 (m (task t))) (set-standing k (without t (standing-in m k)) m)
 
 -- The task waits and stands in the chain that its wait names. No more is asked, so that the tick can ask it of a record that isn't sound before the tick
 -- is over.
@@ -103,7 +103,7 @@ pub record Endable (s : State) (t : ℕ) : Type 0 where
   pub stands : chain-of t (lists task-limit task-chains (s .waiting .link)) ≡ wait-chain (task-at s t .wait)
 
 pub record Ended (s : State) (t : ℕ) (code : Code) (r : State) : Type 0 where
-  pub becomes : (k : WaitQueue) → wait-queue (abs s .rows (task t) .wait) ≡ some k → Becomes s (ended-wait t code k (abs s .rows)) r
+  pub becomes : (k : WaitQueue) → wait-queue (abs s .rows (task t) .wait) ≡ some k → Becomes s (rows-with-wait-ended t code k (abs s .rows)) r
 
 -- There is such a wait queue, and one alone, since `wait-queue` is a function.
 pub record SomeQueueNamed (wait : Wait) : Type 0 where

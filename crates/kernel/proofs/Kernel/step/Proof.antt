@@ -47,7 +47,7 @@ returns-4 c =
     let tested = seen .before .before .before in
     let start = tested .before .before .before in
     let S = went-on (tested .sound .ensures) (seen .before .before .if2 .left) in
-    let code = judged .before .refusal .ensures _ (seen .see .ensures) in
+    let code = judged .before .refusal .ensures _ (seen .see .ensures .shows) in
     let refused = is-refused (start .args .self .state) (start .args .call) code (judged .accepts .ensures) (c .before .if4 .taken) in
     stepped-sound (tested .before .if1 .left) S (follows-refused S (seen .before .if3 .left) refused code (c .refuse3 .ensures))
 
@@ -57,7 +57,7 @@ perform-requires c κs =
     let tested = seen .before .before .before in
     let start = tested .before .before .before in
     let S = went-on (tested .sound .ensures) (seen .before .before .if2 .left) in
-    let accepted = is-accepted (start .args .self .state) (start .args .call) (c .before .before .refusal .ensures _ (seen .see .ensures)) (c .before .accepts .ensures) (c .if4 .left) in
+    let accepted = is-accepted (start .args .self .state) (start .args .call) (c .before .before .refusal .ensures _ (seen .see .ensures .shows)) (c .before .accepts .ensures) (c .if4 .left) in
     let some = seen .before .if3 .left in
     record { accepted = record { sound = S; number-is = refl; accepted = accepted }; not-below = omega arith; not-above = tested .before .if1 .left }
 
@@ -68,7 +68,7 @@ returns-5 c =
     let tested = seen .before .before .before in
     let start = tested .before .before .before in
     let S = went-on (tested .sound .ensures) (seen .before .before .if2 .left) in
-    let accepted = is-accepted (start .args .self .state) (start .args .call) (judged .before .refusal .ensures _ (seen .see .ensures)) (judged .accepts .ensures) (c .before .if4 .left) in
+    let accepted = is-accepted (start .args .self .state) (start .args .call) (judged .before .refusal .ensures _ (seen .see .ensures .shows)) (judged .accepts .ensures) (c .before .if4 .left) in
     stepped-sound (tested .before .if1 .left) S (follows-accepted S (seen .before .if3 .left) accepted (c .perform .ensures))
 
 pub step-spec : {M : Type 1} → statement M
