@@ -2,34 +2,20 @@
 use mathlib.Core.Path.{_≡_, refl, sym, _∙_, ap, subst}
 use mathlib.Core.Bool.{Bool, true, false, not}
 use mathlib.Core.List.{List}
-use native.Mathlib.Omega.{arith}
 use lib.Dec.{T}
-use lib.ListN.{getD}
 use Rattle.lists.specs.Lists.{Each, none, both}
-use Rattle.rows.specs.Program.{run, step-of}
-use Rattle.model.specs.Rows.{same-key, Model}
-use Rattle.model.specs.Codes.{values, finished}
-use Rattle.model.specs.Calls.{view-of}
+use Rattle.model.specs.Codes.{values}
 use Rattle.model.specs.Errors.{ErrorRow, some-applies, first-that-applies, refused, refusal}
-use Rattle.model.specs.Step.{no-call, effects, effect, step}
+use Rattle.model.specs.Step.{step}
 use Rattle.model.specs.Engine.{Engine, Lawful, RefusedWith}
-use Rattle.model.specs.declared.Call.{Call}
 use Rattle.model.proofs.Tests.{or-left, or-right}
+use Rattle.model.proofs.StoredPair.{fetch-answers}
 use Rattle.model.proofs.Choices.{cond-yes, cond-no}
-use Rattle.model.proofs.Step.{step-call, run-accepted}
 use Rattle.record.specs.Step.{state-engine}
 use Rattle.record.proofs.Equal.{state-lawful}
 use Rattle.demands.specs.Conforms.{FirstToApply, applies, earlier-passed, Conforms, Settled}
-use Rattle.demands.proofs.Runs.{no-tick, follows}
+use Rattle.demands.proofs.Runs.{follows}
 use Rattle.demands.proofs.Handled.{refused-step, no-error}
-
--- Fetch that no row refuses answers the stored pair.
-fetch-answers : (m : Model) (c : Call) → c .number ≡ 23 → T (not (refused (view-of m c) c))
-    → step m c .answer ≡ finished (view-of m c .the-task .code) (view-of m c .the-task .word) 0 0
-unfolding step-of effect effects run
-fetch-answers m c e t =
-    rw (step-call m c (no-tick (c .number) (omega arith)), run-accepted m c t)
-    (ap (λ n. run same-key (getD effects n no-call (m .environment) (view-of m c) c) (m .rows) .answer) e)
 
 -- The first row to apply gives the code; where none applies there is no refusal.
 first-applies : {row : ErrorRow} {rows : List ErrorRow} → FirstToApply row rows → T (some-applies rows) × (first-that-applies rows ≡ row .code)

@@ -1,12 +1,10 @@
 -- Demand 1: the table's first row that applies, read off the table; what the tick answers, from the definition (crate model).
-use mathlib.Core.Path.{_≡_, refl, sym, _∙_, ap, subst}
+use mathlib.Core.Path.{_≡_, sym, _∙_, ap, subst}
 use mathlib.Core.Bool.{Bool, true, false, not, cond, _||_}
 use mathlib.Core.List.{List}
 use mathlib.Core.Logic.{_≢_}
 use Prim.Native.Nat.{_≤_}
-use native.Mathlib.Omega.{arith}
-use native.Mathlib.Decide.{ℕ-discrete}
-use lib.Dec.{T, not-T, eqb, eqb-refl, eqb→eq}
+use lib.Dec.{T}
 use lib.ListN.{length}
 use mir.Facts.{no-ltb}
 use Rattle.lists.specs.Lists.{Each, none, both, every}
@@ -15,7 +13,7 @@ use Rattle.rows.specs.Program as Program
 use Rattle.model.specs.Sizes.{call-limit}
 use Rattle.model.specs.Rows.{Model}
 use Rattle.model.specs.Codes.{values, finished}
-use Rattle.model.specs.Calls.{View}
+use Rattle.model.specs.Calls.{is-tick, fetches, View}
 use Rattle.model.specs.Errors.{unknown, caller-cannot-call, ErrorRow, rows-to-step-4, rows-from-step-5, error-table, some-applies, first-that-applies, refused, refusal}
 use Rattle.model.specs.Step.{step}
 use Rattle.model.specs.Refusals.{NoError}
@@ -35,7 +33,7 @@ use Rattle.record.specs.Step.{state-engine}
 use Rattle.record.proofs.Equal.{state-lawful}
 use Rattle.record.proofs.Rows.{passes-or-not}
 use Rattle.demands.specs.Handled.{is-error, view-in, Handled}
-use Rattle.demands.proofs.Runs.{no-tick, follows}
+use Rattle.demands.proofs.Runs.{follows}
 
 -- ── The table ──
 
@@ -70,28 +68,26 @@ module _ (v : View) (c : Call) where
 -- ── Every call ──
 
 module _ {S : Type 0} {E : Engine S} {s after : S} {c : Call} {answer : Answer} (h : Stepped E s c after answer) (sound : E .Sound s) where
-  pub refused-step : 1 ≤ c .number → T (refused (view-in E s c) c) → RefusedWith (refusal (view-in E s c) c) s after answer
-  refused-step low t =
+  pub refused-step : T (not (is-tick c)) → T (refused (view-in E s c) c) → RefusedWith (refusal (view-in E s c) c) s after answer
+  refused-step not-tick t =
       let f = follows h sound in
-      let not-tick = no-tick (c .number) low in
       let given : answer ≡ finished (refusal (view-in E s c) c) 0 0 0 = f .answer-is ∙ ap (λ (o : Program.Result Model Answer). o .answer) (refusals (E .abs s) c not-tick .by-row t) in
       record { state-is = f .unchanged not-tick t; finished-with = record { answer-is = given; values-are = ap values given } }
 
-  tick-step : Lawful E → c .number ≡ 0 → answer ≡ finished E-OK (length (ended-waits (E .abs s .rows) (E .abs after .rows))) 0 0
+  tick-step : Lawful E → T (is-tick c) → answer ≡ finished E-OK (length (ended-waits (E .abs s .rows) (E .abs after .rows))) 0 0
   tick-step laws e =
       let f = follows h sound in
-      f .answer-is ∙ (tick-counts-ends (E .abs s) c (laws .well-formed s sound) (subst (λ n. T (eqb n 0)) (sym e) (eqb-refl 0))
+      f .answer-is ∙ (tick-counts-ends (E .abs s) c (laws .well-formed s sound) e
       ∙ ap (λ (m : Model). finished E-OK (length (ended-waits (E .abs s .rows) (m .rows))) 0 0) (sym (f .meaning-is)))
 
-  pub no-error : 1 ≤ c .number → c .number ≢ 23 → T (not (refused (view-in E s c) c)) → NoError (answer .outcome)
-  no-error low other t = rw (follows h sound .answer-is) (refusals (E .abs s) c (no-tick (c .number) low) .else-no-error t (not-T (eqb (c .number) 23) (λ u. other (eqb→eq (c .number) 23 u))))
+  pub no-error : T (not (is-tick c)) → T (not (fetches c)) → T (not (refused (view-in E s c) c)) → NoError (answer .outcome)
+  no-error not-tick other t = rw (follows h sound .answer-is) (refusals (E .abs s) c not-tick .else-no-error t other)
 
   -- Where no row applies there is no error, and the tick answers none.
-  other-step : Lawful E → c .number ≢ 23 → (code : Code) → answer .outcome ≡ Finished code → code ≢ E-OK → RefusedWith code s after answer × T (is-error code)
-  other-step laws other code e fault = elim (ℕ-discrete (c .number) 0) [
-    | yes zero ↦ absurd (fault (ok code e (ap (λ (x : Answer). x .outcome) (tick-step laws zero))))
-    | no n ↦ passes-or-not (refused v c) (by-row (omega arith)) (λ t. absurd (fault (ok-code code (answer .outcome) e (no-error (omega arith) other t))))
-  ]
+  other-step : Lawful E → T (not (fetches c)) → (code : Code) → answer .outcome ≡ Finished code → code ≢ E-OK → RefusedWith code s after answer × T (is-error code)
+  other-step laws other code e fault = passes-or-not (is-tick c)
+      (λ tick. absurd (fault (ok code e (ap (λ (x : Answer). x .outcome) (tick-step laws tick)))))
+      (λ call. passes-or-not (refused v c) (by-row call) (λ t. absurd (fault (ok-code code (answer .outcome) e (no-error call other t)))))
     where
       v : View
       v = view-in E s c
@@ -103,7 +99,7 @@ module _ {S : Type 0} {E : Engine S} {s after : S} {c : Call} {answer : Answer} 
       ok-code code (Finished d) e f = cc
       ok-code code (Waits place) e f = cc
 
-      by-row : 1 ≤ c .number → T (refused v c) → RefusedWith code s after answer × T (is-error code)
+      by-row : T (not (is-tick c)) → T (refused v c) → RefusedWith code s after answer × T (is-error code)
       by-row low t =
           let step = refused-step low t in
           let same : refusal v c ≡ code = cc (ap (λ (x : Answer). x .outcome) (step .finished-with .answer-is)) in

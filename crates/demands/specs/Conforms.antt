@@ -3,10 +3,9 @@
 use mathlib.Core.Path.{_≡_}
 use mathlib.Core.Bool.{not}
 use mathlib.Core.List.{List, _∷_}
-use mathlib.Core.Logic.{_≢_}
-use Prim.Native.Nat.{_≤_}
 use lib.Dec.{T}
 use Rattle.lists.specs.Lists.{Each}
+use Rattle.model.specs.Calls.{is-tick, fetches}
 use Rattle.model.specs.Codes.{values}
 use Rattle.model.specs.Errors.{ErrorRow, error-table}
 use Rattle.model.specs.Step.{step}
@@ -32,11 +31,11 @@ pub record ConformsSo {S : Type 0} (E : Engine S) (s : S) (c : Call) (after : S)
   pub values-are : values answer ≡ values (step (E .abs s) c .answer)
   pub state-is : E .abs after ≡ step (E .abs s) c .state
   -- An error is given exactly when its condition holds and no earlier check refuses. Then:
-  pub error : 1 ≤ c .number → (row : ErrorRow) → FirstToApply row (errors E s c) → RefusedWith (row .code) s after answer
+  pub error : T (not (is-tick c)) → (row : ErrorRow) → FirstToApply row (errors E s c) → RefusedWith (row .code) s after answer
   -- And else not: where no row applies, the answer is E_OK, or waits.
-  pub no-error : 1 ≤ c .number → c .number ≢ 23 → Each (λ row. T (not (row .applies))) (errors E s c) → NoError (answer .outcome)
+  pub no-error : T (not (is-tick c)) → T (not (fetches c)) → Each (λ row. T (not (row .applies))) (errors E s c) → NoError (answer .outcome)
   -- Where no row applies, fetch gives the code and the word that the named task's wait ended with, which is no refusal.
-  pub fetched : c .number ≡ 23 → Each (λ row. T (not (row .applies))) (errors E s c)
+  pub fetched : T (fetches c) → Each (λ row. T (not (row .applies))) (errors E s c)
       → FinishedWith answer (view-in E s c .the-task .code) (view-in E s c .the-task .word) 0 0
 
 abbrev pub Conforms : {S : Type 0} → Engine S → Type 0

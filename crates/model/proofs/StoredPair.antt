@@ -3,19 +3,21 @@ use mathlib.Core.Path.{_≡_, refl, sym, _∙_, ap, subst}
 use mathlib.Core.Bool.{not}
 use mathlib.Core.List.{List, [], _∷_}
 use Prim.Native.Nat.{ℕ}
+use native.Mathlib.Omega.{arith}
 use lib.Dec.{T, T-not, not-T, eqb→eq}
+use lib.ListN.{getD}
 use mir.Facts.{T-not-not}
 use Rattle.lists.specs.Lists.{one-of}
 use Rattle.lists.proofs.Each.{each-of-all}
 use Rattle.rows.specs.Program as Program
 use Rattle.rows.specs.Program.{run, step-of}
 use Rattle.rows.specs.Runs.{end}
-use Rattle.model.specs.Rows.{task, TaskRow, Model}
+use Rattle.model.specs.Rows.{task, same-key, TaskRow, Model}
 use Rattle.model.specs.Codes.{finished}
-use Rattle.model.specs.Calls.{Call, view-of}
+use Rattle.model.specs.Calls.{Call, is-tick, fetches, view-of}
 use Rattle.model.specs.Waits.{Wait, able, ended}
 use Rattle.model.specs.Errors.{refused}
-use Rattle.model.specs.Step.{effects, effect, step}
+use Rattle.model.specs.Step.{effects, effect, no-call, step}
 use Rattle.model.specs.WellFormed.{WellFormed}
 use Rattle.model.specs.Endings.{is-waiting, row-after, defines, NoWaitBegins, FetchOf, FetchGivesStoredPair, FetchGivesWhatWasDue}
 use Rattle.model.proofs.Step.{numbered, step-call, run-accepted}
@@ -37,10 +39,13 @@ stays-until m t w defined-task no-wait (c ∷ cs) b =
     (subst (λ (x : TaskRow). T (not (not (able (x .wait))))) (sym same) no-wait) cs (b .1) ∙ same
 
 -- An accepted fetch answers the pair of the row in view.
-fetch-answers : (m : Model) (f : Call) → T (not (refused (view-of m (numbered 23 f)) (numbered 23 f)))
-    → step m (numbered 23 f) .answer ≡ finished (view-of m (numbered 23 f) .the-task .code) (view-of m (numbered 23 f) .the-task .word) 0 0
+pub fetch-answers : (m : Model) (c : Call) → T (fetches c) → T (not (refused (view-of m c) c))
+    → step m c .answer ≡ finished (view-of m c .the-task .code) (view-of m c .the-task .word) 0 0
 unfolding step-of effect effects run
-fetch-answers m f ok = rw (step-call m (numbered 23 f) tt, run-accepted m (numbered 23 f) ok)
+fetch-answers m c f t =
+    let e = eqb→eq (c .number) 23 f in
+    rw (step-call m c (not-T (is-tick c) (λ u. let z = eqb→eq (c .number) 0 u in omega arith)), run-accepted m c t)
+    (ap (λ n. run same-key (getD effects n no-call (m .environment) (view-of m c) c) (m .rows) .answer) e)
 
 fetch-gives : (m : Model) (t : ℕ) (f : Call) → FetchOf t m f → step m f .answer ≡ finished (m .rows (task t) .code) (m .rows (task t) .word) 0 0
 unfolding one-of
@@ -50,7 +55,7 @@ fetch-gives m t f h = subst (λ n. T (not (refused (view-of m (numbered n f)) (n
     at-23 : T (not (refused (view-of m (numbered 23 f)) (numbered 23 f))) → step m (numbered 23 f) .answer ≡ finished (m .rows (task t) .code) (m .rows (task t) .word) 0 0
     at-23 ok =
         let a = accepted Valid (view-of m (numbered 23 f)) (numbered 23 f) (each-of-all (λ k i. i) _) ok in
-        fetch-answers m f ok ∙ ap (λ (x : TaskRow). finished (x .code) (x .word) 0 0) (shown-task m (numbered 23 f) tt (a .task-in tt) ∙ ap (λ n. m .rows (task n)) (h .names-it))
+        fetch-answers m (numbered 23 f) tt ok ∙ ap (λ (x : TaskRow). finished (x .code) (x .word) 0 0) (shown-task m (numbered 23 f) tt (a .task-in tt) ∙ ap (λ n. m .rows (task n)) (h .names-it))
 
 pub fetch-gives-stored-pair : FetchGivesStoredPair
 fetch-gives-stored-pair m t w defined-task no-wait cs b f h =
