@@ -1,6 +1,6 @@
-//! The records that bench/figures measures, and the cycles of calls that it plays on them. A record is given as the calls that make it from the empty
-//! record, so that every program can be brought to it. A cycle leaves the record as it found it, but for the counter and where a ring starts, so it
-//! can be played again and again.
+//! The records that bench/figures and bench/limits measure, and the cycles of calls that bench/figures plays on them. A record is given as the calls
+//! that make it from the empty record, so that every program can be brought to it. A cycle leaves the record as it found it, but for the counter and
+//! where a ring starts, so it can be played again and again.
 use linguastel::number::*;
 use linguastel::*;
 
@@ -11,6 +11,16 @@ pub enum Expected {
 }
 
 pub use Expected::{Code, Place};
+
+impl Expected {
+    pub fn is(self, answer: Answer) -> bool {
+        match (answer.outcome(), self) {
+            (Outcome::Finished(code), Code(wanted)) => code == wanted,
+            (Outcome::Waits(place), Place(wanted)) => place == wanted,
+            _ => false,
+        }
+    }
+}
 
 pub type Expectation = (Call, Expected);
 
@@ -34,32 +44,32 @@ pub const A_TICK: Call = Call { number: 0, caller: 0, locked: 0, disabled: 0, ob
 
 // ── Calls in short ──
 
-fn by(caller: u32, number: u32, object: u32) -> Call {
+pub fn by(caller: u32, number: u32, object: u32) -> Call {
     Call { number, caller, object, ..A_TICK }
 }
 
-fn with(caller: u32, number: u32, object: u32, value: u32) -> Call {
+pub fn with(caller: u32, number: u32, object: u32, value: u32) -> Call {
     Call { value, ..by(caller, number, object) }
 }
 
-fn define(task: u32, priority: u32) -> Call {
+pub fn define(task: u32, priority: u32) -> Call {
     with(0, DEFINE_TASK, task, priority)
 }
 
-fn create_queue(queue: u32, attribute: u32, capacity: u32) -> Call {
+pub fn create_queue(queue: u32, attribute: u32, capacity: u32) -> Call {
     Call { attribute, ..with(0, CRE_DTQ, queue, capacity) }
 }
 
-fn create_mailbox(mailbox: u32, attribute: u32, highest: u32) -> Call {
+pub fn create_mailbox(mailbox: u32, attribute: u32, highest: u32) -> Call {
     Call { attribute, ..with(0, CRE_MBX, mailbox, highest) }
 }
 
-fn message(caller: u32, mailbox: u32, message: u32, priority: u32) -> Call {
+pub fn message(caller: u32, mailbox: u32, message: u32, priority: u32) -> Call {
     Call { attribute: priority, ..with(caller, SND_MBX, mailbox, message) }
 }
 
 // By a task it may wait; by the handler it is psnd.
-fn send(caller: u32, queue: u32, word: u32) -> Call {
+pub fn send(caller: u32, queue: u32, word: u32) -> Call {
     with(caller, if caller == 0 { PSND_DTQ } else { SND_DTQ }, queue, word)
 }
 
@@ -228,7 +238,7 @@ fn small() -> Situation {
     Situation { name: "small", counter: 0, calls, cycles: cycles(&roles) }
 }
 
-// 12 tasks, 6 data queues and 4 mailboxes; 5 tasks wait and 10 messages are queued, as in bench/sound.
+// 12 tasks, 6 data queues and 4 mailboxes; 5 tasks wait and 10 messages are queued.
 fn typical() -> Situation {
     let mut calls: Vec<Call> = (1..=12).map(|task| define(task, 1 + task)).collect();
     for (queue, capacity, words) in [(1, 2, 2), (2, 4, 0), (3, 0, 0), (4, 8, 5), (5, 16, 1), (6, 4, 0)] {

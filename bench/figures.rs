@@ -2,15 +2,17 @@
 //! every cycle on every program and compares the answers with those expected; `figures times` prints nanoseconds; `figures marked` is run under
 //! callgrind, which counts the instructions between its marks; `figures rows` lists the cycles and `figures cycle RECORD ROW PROGRAM ROUNDS` plays
 //! one of them; `figures growth CALLS` plays as many calls on the typical record and prints nanoseconds for a call and the memory used. What is
-//! printed for bench/figures has tabs between its fields.
+//! printed for bench/figures has tabs between its fields. For bench/enter `figures laps RECORD ROW HOW ROUNDS` writes a cycle as the input of the
+//! program laps, and `figures sum RECORD ROW ROUNDS` prints the checksum that this program is to give.
 mod cycles;
 mod programs;
 mod same;
 
-use cycles::{situations, Cycle, Expected, Situation};
-use linguastel::{Answer, Outcome};
+use cycles::{situations, Cycle, Situation};
+use linguastel::{Answer, Call};
 use programs::{Baseline, Entry, Program, Untested};
 use std::hint::black_box;
+use std::io::Write;
 use std::process::exit;
 use std::time::Instant;
 
@@ -52,14 +54,6 @@ fn tests<P: Program>(ready: &Ready<P>, count: u64) {
 
 // ── Checking ──
 
-fn as_expected(answer: Answer, expected: Expected) -> bool {
-    match (answer.outcome(), expected) {
-        (Outcome::Finished(code), Expected::Code(wanted)) => code == wanted,
-        (Outcome::Waits(place), Expected::Place(wanted)) => place == wanted,
-        _ => false,
-    }
-}
-
 // Every call that makes a record is accepted, and every round of a cycle gives the same codes and places. 64 rounds turn every ring four times.
 fn check<P: Program>(situation: &Situation, cycle: &Cycle) -> Result<(), String> {
     let mut program = P::empty(situation.counter);
@@ -75,7 +69,7 @@ fn check<P: Program>(situation: &Situation, cycle: &Cycle) -> Result<(), String>
         }
         for (call, expected) in &cycle.calls {
             let answer = program.play(&P::call_of(call));
-            if !as_expected(answer, *expected) {
+            if !expected.is(answer) {
                 return Err(format!("{}, {}: {} answers {call:?}: {answer:?}", situation.name, cycle.name, P::NAME));
             }
         }
@@ -302,6 +296,77 @@ fn growth(calls: u64) -> Option<()> {
     Some(())
 }
 
+// ── The same cycles for the program laps (crates/laps) ──
+
+// Numbers of records that are no calls.
+const MARK: u8 = 255;
+const UNDEFINE: u8 = 254;
+
+fn found<'a>(situations: &'a [Situation], record: &str, row: &str) -> Option<(&'a Situation, &'a Cycle)> {
+    let situation = situations.iter().find(|situation| situation.name == record)?;
+    Some((situation, situation.cycles.get(row.parse::<usize>().ok()?)?))
+}
+
+// A record of 32 bytes (document 02, item 3), with nothing in the half that holds the answer.
+fn bytes_of(call: &Call) -> [u8; 32] {
+    let mut bytes = [0; 32];
+    bytes[..4].copy_from_slice(&[call.number as u8, call.caller as u8, (call.locked | call.disabled << 1) as u8, call.object as u8]);
+    bytes[4..8].copy_from_slice(&call.value.to_le_bytes());
+    bytes[8..12].copy_from_slice(&call.tmout.to_le_bytes());
+    bytes[12..16].copy_from_slice(&call.attribute.to_le_bytes());
+    bytes
+}
+
+// A record that is no call: a number, the object, and the word of bytes 4 to 7.
+fn bare(number: u8, object: u8, word: u32) -> [u8; 32] {
+    let mut bytes = [0; 32];
+    (bytes[0], bytes[3]) = (number, object);
+    bytes[4..8].copy_from_slice(&word.to_le_bytes());
+    bytes
+}
+
+fn laps(record: &str, row: &str, how: u8, count: u64) -> Option<()> {
+    let situations = situations();
+    let (situation, cycle) = found(&situations, record, row)?;
+    let mut input = vec![bare(how, 0, situation.counter)];
+    input.extend(situation.calls.iter().chain(&cycle.before).map(bytes_of));
+    input.push(bare(MARK, 0, 0));
+    for _ in 0..count {
+        if cycle.undefined != 0 {
+            input.push(bare(UNDEFINE, cycle.undefined as u8, 0));
+        }
+        input.extend(cycle.calls.iter().map(|(call, _)| bytes_of(call)));
+    }
+    std::io::stdout().write_all(&input.concat()).ok()
+}
+
+// What stands for an answer where the host takes a task away.
+const NO_WORDS: Answer = Answer { kind: 0, code: 0, place: 0, a: 0, b: 0, c: 0 };
+
+// As `with_answer` of crates/laps.
+fn with_answer(sum: u32, answer: Answer) -> u32 {
+    let first = if answer.kind == 0 { answer.code.unsigned_abs() } else { answer.place ^ 65536 };
+    [first, answer.a, answer.b, answer.c].iter().fold(sum, |sum, word| sum.rotate_left(5) ^ word)
+}
+
+fn sum(record: &str, row: &str, count: u64) -> Option<()> {
+    let situations = situations();
+    let (situation, cycle) = found(&situations, record, row)?;
+    let Ready { mut program, calls, undefined } = ready::<Baseline>(situation, cycle);
+    let mut sum = 1;
+    for _ in 0..count {
+        if undefined != 0 {
+            program.undefine(undefined);
+            sum = with_answer(sum, NO_WORDS);
+        }
+        for call in &calls {
+            sum = with_answer(sum, program.play(call));
+        }
+    }
+    println!("{sum}");
+    Some(())
+}
+
 // ── The commands ──
 
 fn run(words: &[&str]) -> Option<Result<(), String>> {
@@ -312,6 +377,8 @@ fn run(words: &[&str]) -> Option<Result<(), String>> {
         ["marked"] => all_marked(),
         ["rows"] => rows(),
         ["cycle", record, row, program, count] => one_cycle(record, row, program, count.parse().ok()?)?,
+        ["laps", record, row, how, count] => laps(record, row, how.parse().ok()?, count.parse().ok()?)?,
+        ["sum", record, row, count] => sum(record, row, count.parse().ok()?)?,
         ["growth", calls] => growth(calls.parse().ok()?)?,
         _ => return None,
     }
@@ -328,7 +395,8 @@ fn main() {
             exit(1);
         }
         None => {
-            eprintln!("figures same CALLS SEED, check, times, marked, rows, cycle RECORD ROW PROGRAM ROUNDS, or growth CALLS");
+            eprintln!("figures same CALLS SEED, check, times, marked, rows, cycle RECORD ROW PROGRAM ROUNDS, growth CALLS,");
+            eprintln!("laps RECORD ROW HOW ROUNDS, or sum RECORD ROW ROUNDS");
             exit(2);
         }
     }

@@ -232,7 +232,7 @@ fn limit(ranked: bool, priority: u8) -> u8 {
 }
 
 fn new_ring(capacity: u8) -> Ring {
-    Ring { words: [0; WORDS], head: 0, count: 0, capacity }
+    Ring { words: [0; WORDS], head: 0, count: 0, capacity, spare: 0 }
 }
 
 fn push_word(ring: &mut Ring, word: u32) {
@@ -374,14 +374,14 @@ fn receive(record: &mut Record, q: usize, empty: Otherwise) -> Outcome {
 fn create_queue(record: &mut Record, q: usize, call: &Call) -> Outcome {
     demand(call.attribute <= TA_TPRI && call.value <= WORDS as u32, E_PAR)?;
     demand(record.queues[q].defined == 0, E_OBJ)?;
-    record.queues[q] = Queue { ring: new_ring(call.value as u8), defined: 1, attribute: call.attribute as u8 };
+    record.queues[q] = Queue { ring: new_ring(call.value as u8), defined: 1, attribute: call.attribute as u8, spare: 0 };
     done()
 }
 
 fn delete_queue(record: &mut Record, q: usize) -> Outcome {
     delete_chain(record, HEADS_OF_SENDERS + q);
     delete_chain(record, HEADS_OF_RECEIVERS + q);
-    record.queues[q] = Queue { ring: new_ring(0), defined: 0, attribute: 0 };
+    record.queues[q] = Queue { ring: new_ring(0), defined: 0, attribute: 0, spare: 0 };
     done()
 }
 

@@ -22,7 +22,7 @@ pub trait OnRecord {
     fn sound(record: &Record) -> bool;
 }
 
-/// The proved library, through its entries `linguastel_call` and `linguastel_sound`.
+/// The proved library, through its entry `linguastel_call`; whether a record is sound is told by a call too.
 pub struct Library;
 
 impl OnRecord for Library {

@@ -10,6 +10,7 @@
 use std::io::{Read, Write};
 use std::process::{exit, Command, Stdio};
 use Kind::*;
+use Odd::*;
 use Sentence::*;
 
 const TASKS: usize = 32;
@@ -31,6 +32,19 @@ struct State {
     messages: Vec<Message>,
     // The record keeps priorities for up to 64 numbers. There are 32 tasks, so half of those beside the tasks belong to nobody.
     spare_priorities: Vec<u8>,
+    // What a record may hold and the lists above can't say. A later one replaces an earlier one.
+    odd: Vec<Odd>,
+}
+
+// A number that says nothing, where the record has one that says something: of a task its flags (4 or more), its wait (4 or more) or whether
+// that is timed (2 or more), of an object whether it is defined (2 or more).
+#[derive(Clone, Copy, Debug)]
+enum Odd {
+    Flags(usize, u32),
+    WaitNumber(usize, u8),
+    Timed(usize, u8),
+    QueueDefined(usize, u8),
+    MailboxDefined(usize, u8),
 }
 
 #[derive(Clone, Default, Debug)]
@@ -98,6 +112,7 @@ impl State {
             mailboxes: vec![Mailbox::default(); OBJECTS + 1],
             messages: vec![Message::default(); MESSAGES + 1],
             spare_priorities: vec![0; MESSAGES - TASKS],
+            odd: Vec::new(),
         }
     }
 
@@ -164,6 +179,7 @@ impl State {
 // The sentences of document 01, 'A sound record', one for each thing that can be wrong.
 #[derive(Clone, Copy, PartialEq, Debug)]
 enum Sentence {
+    EachNumberSays,
     ObjectNumbers,
     TaskNumbers,
     TaskChainsEnd,
@@ -199,7 +215,8 @@ enum Sentence {
 }
 
 // In the order in which the reading comes to them.
-const SENTENCES: [(Sentence, &str); 32] = [
+const SENTENCES: [(Sentence, &str); 33] = [
+    (EachNumberSays, "each number says something"),
     (ObjectNumbers, "a wait names an object from 1 to 16"),
     (TaskNumbers, "a chain of tasks has numbers from 1 to 32"),
     (TaskChainsEnd, "a chain of tasks ends after 32 or fewer"),
@@ -254,6 +271,7 @@ struct Chains {
 }
 
 fn read(state: &State) -> Reading {
+    each_number_says_something(state)?;
     let chains = read_chains(state)?;
     tasks_stand_where_they_wait(state, &chains)?;
     messages_stand_once(&chains)?;
@@ -266,6 +284,18 @@ fn read(state: &State) -> Reading {
     kept_priorities_are_in_range(state, &chains)?;
     stored_codes_end_a_wait(state)?;
     end_ticks_are_ahead(state)
+}
+
+fn each_number_says_something(state: &State) -> Reading {
+    // Numbers are in range. Whether a wait is timed is kept only where there is one, and entry 0 belongs to nobody.
+    for odd in &state.odd {
+        let kept = match *odd {
+            Timed(task, _) => task != 0 && state.tasks[task].wait.is_some(),
+            Flags(number, _) | WaitNumber(number, _) | QueueDefined(number, _) | MailboxDefined(number, _) => number != 0,
+        };
+        require(!kept, EachNumberSays)?;
+    }
+    Ok(())
 }
 
 // The numbers from `first` on. A number is in range from 1 to `most`; a chain is followed for at most `most` of them, and one that is
@@ -477,8 +507,10 @@ fn end_ticks_are_ahead(state: &State) -> Reading {
 
 // ── The stream ──
 
-// The errors' numbers; the stream has a code's place in this list.
-const CODES: [i32; 12] = [0, -5, -17, -18, -25, -28, -41, -42, -43, -49, -50, -51];
+// Where the tasks, the data queues and the mailboxes start in a record.
+const TASKS_AT: usize = 64;
+const QUEUES_AT: usize = 870;
+const MAILBOXES_AT: usize = 955;
 
 // A record has 1,152 bytes, numbers with their lowest byte first: the label (60 bytes, zeros behind it), the counter (4), the tasks (20 each),
 // the table of waiting tasks (81 and 65), the data queues (5 each), the mailboxes (3 each), the table of queued messages (81 and 65). Entry 0
@@ -503,20 +535,34 @@ fn encode(label: &str, state: &State) -> Vec<u8> {
     bytes.extend(state.mailboxes[1..].iter().map(|mailbox| mailbox.first_message));
     bytes.extend(state.messages.iter().map(|message| message.priority));
     assert_eq!(bytes.len(), 1152);
+    for odd in &state.odd {
+        encode_odd(&mut bytes, *odd);
+    }
     bytes
 }
 
-// Defined, suspended, kind of wait (0 for none), object, 1 where there is an end tick, code, two bytes of no use; then end tick, word to be
-// sent, stored word.
+// Stored word, end tick, word to be sent; kind of wait (0 for none), object, 1 where there is an end tick, code without its minus sign; flags, a
+// sum: 1 defined, 2 suspended.
 fn encode_task(bytes: &mut Vec<u8>, task: &Task) {
     let kind = task.wait.as_ref().map_or(0, |wait| 1 + wait.kind as u8);
     let object = task.wait.as_ref().map_or(0, |wait| wait.object);
     let end = task.wait.as_ref().and_then(|wait| wait.end);
     let word = task.wait.as_ref().map_or(0, |wait| wait.word);
-    let code = CODES.iter().position(|code| *code == task.code).expect("a code") as u8;
-    bytes.extend([task.defined as u8, task.suspended as u8, kind, object, end.is_some() as u8, code, 0, 0]);
-    for number in [end.unwrap_or(0), word, task.word] {
+    let code = u8::try_from(-task.code).expect("a code");
+    for number in [task.word, end.unwrap_or(0), word] {
         bytes.extend(number.to_le_bytes());
+    }
+    bytes.extend([kind, object, end.is_some() as u8, code]);
+    bytes.extend((task.defined as u32 + 2 * task.suspended as u32).to_le_bytes());
+}
+
+fn encode_odd(bytes: &mut [u8], odd: Odd) {
+    match odd {
+        Flags(task, number) => bytes[TASKS_AT + 20 * task + 16..][..4].copy_from_slice(&number.to_le_bytes()),
+        WaitNumber(task, number) => bytes[TASKS_AT + 20 * task + 12] = number,
+        Timed(task, number) => bytes[TASKS_AT + 20 * task + 14] = number,
+        QueueDefined(queue, number) => bytes[QUEUES_AT + 5 * queue] = number,
+        MailboxDefined(mailbox, number) => bytes[MAILBOXES_AT + 3 * mailbox] = number,
     }
 }
 
@@ -641,12 +687,13 @@ fn any_numbers_at_zero(state: &mut State) {
     state.queues[0] = Queue { defined: true, attribute: 99, ring_head: 99, count: 99, capacity: 98, ..Queue::default() };
     state.mailboxes[0] = Mailbox { defined: true, attribute: 99, highest: 99, ..Mailbox::default() };
     state.messages[0] = Message { priority: 99, next: 99 };
+    state.odd.extend([Flags(0, 99), WaitNumber(0, 99), Timed(0, 99), QueueDefined(0, 99), MailboxDefined(0, 99)]);
 }
 
 // Priority, code and word of an undefined task, attribute, ring and capacity of an undefined queue, attribute and highest of an undefined
 // mailbox.
 fn any_numbers_in_the_undefined(state: &mut State) {
-    state.tasks[13] = Task { priority: 99, code: -5, word: 9, next: 99, ..Task::default() };
+    state.tasks[13] = Task { priority: 99, code: -99, word: 9, next: 99, ..Task::default() };
     state.queues[6] = Queue { attribute: 99, ring_head: 99, capacity: 99, ..Queue::default() };
     state.mailboxes[6] = Mailbox { attribute: 99, highest: 99, ..Mailbox::default() };
 }
@@ -661,7 +708,7 @@ fn any_numbers_in_unused_cells(state: &mut State) {
     state.spare_priorities.fill(255);
 }
 
-const SOUND: [HandMade; 28] = [
+const SOUND: [HandMade; 29] = [
     ("nothing defined", None, |s| *s = State::empty()),
     ("a typical state", None, |_| {}),
     ("a full state", None, |s| *s = full()),
@@ -691,6 +738,7 @@ const SOUND: [HandMade; 28] = [
     ("any numbers in cells 0", None, any_numbers_at_zero),
     ("any numbers in undefined things", None, any_numbers_in_the_undefined),
     ("any numbers in unused cells", None, any_numbers_in_unused_cells),
+    ("any number for a timed wait where there is no wait", None, |s| s.odd.push(Timed(9, 2))),
     ("any number as highest priority without attribute 2", None, |s| s.mailboxes[2].highest = 99),
     ("any numbers in priorities of messages without attribute 2", None, |s| {
         s.messages[31].priority = 99;
@@ -796,7 +844,15 @@ const WRONG_WAITS: [HandMade; 19] = [
     ("an undefined task that is suspended", Some(TaskNotSuspended), |s| s.tasks[9].defined = false),
 ];
 
-const WRONG_NUMBERS: [HandMade; 14] = [
+const WRONG_NUMBERS: [HandMade; 22] = [
+    ("wait 4", Some(EachNumberSays), |s| s.odd.push(WaitNumber(5, 4))),
+    ("wait 255 of an undefined task", Some(EachNumberSays), |s| s.odd.push(WaitNumber(13, 255))),
+    ("a wait timed 2", Some(EachNumberSays), |s| s.odd.push(Timed(2, 2))),
+    ("flags 4 of a task that doesn't wait", Some(EachNumberSays), |s| s.odd.push(Flags(9, 4))),
+    ("flags 257 of a waiting task", Some(EachNumberSays), |s| s.odd.push(Flags(1, 257))),
+    ("a data queue whose defined is 2", Some(EachNumberSays), |s| s.odd.push(QueueDefined(4, 2))),
+    ("an empty data queue whose defined is 255", Some(EachNumberSays), |s| s.odd.push(QueueDefined(6, 255))),
+    ("a mailbox whose defined is 2", Some(EachNumberSays), |s| s.odd.push(MailboxDefined(16, 2))),
     ("task priority 0", Some(TaskPriorities), |s| s.tasks[1].priority = 0),
     ("task priority 17", Some(TaskPriorities), |s| s.define_task(32, 17)),
     ("priority 0 of a task that waits by priority", Some(TaskPriorities), |s| s.tasks[3].priority = 0),
@@ -813,7 +869,7 @@ const WRONG_NUMBERS: [HandMade; 14] = [
     ("a kept message priority 17", Some(KeptPriorities), |s| s.messages[21].priority = 17),
 ];
 
-const WRONG_CODES: [HandMade; 9] = [
+const WRONG_CODES: [HandMade; 12] = [
     ("a stored E_SYS", Some(StoredCodes), |s| s.tasks[9].code = -5),
     ("a stored E_PAR", Some(StoredCodes), |s| s.tasks[9].code = -17),
     ("a stored E_ID", Some(StoredCodes), |s| s.tasks[9].code = -18),
@@ -823,6 +879,9 @@ const WRONG_CODES: [HandMade; 9] = [
     ("a stored E_NOEXS", Some(StoredCodes), |s| s.tasks[9].code = -42),
     ("a stored E_QOVR", Some(StoredCodes), |s| s.tasks[9].code = -43),
     ("a stored E_PAR of a waiting task", Some(StoredCodes), |s| s.tasks[3].code = -17),
+    ("a stored -1", Some(StoredCodes), |s| s.tasks[9].code = -1),
+    ("a stored -52", Some(StoredCodes), |s| s.tasks[9].code = -52),
+    ("a stored -255", Some(StoredCodes), |s| s.tasks[9].code = -255),
 ];
 
 const WRONG_ENDS: [HandMade; 8] = [
@@ -927,7 +986,7 @@ fn random_unused(random: &mut Random) -> State {
         _ => random.word(),
     };
     for task in &mut state.tasks {
-        *task = Task { priority: random.byte(), code: random.one_of(&CODES), word: random.word(), next: random.byte(), ..Task::default() };
+        *task = Task { priority: random.byte(), code: -i32::from(random.byte()), word: random.word(), next: random.byte(), ..Task::default() };
     }
     for queue in &mut state.queues {
         *queue = Queue { attribute: random.byte(), ring_head: random.byte(), capacity: random.byte(), ..Queue::default() };
@@ -1069,7 +1128,7 @@ fn random_sound(random: &mut Random) -> State {
 // A change that may break a sentence and may not.
 type Change = fn(&mut State, &mut Random);
 
-const CHANGES: [Change; 18] = [
+const CHANGES: [Change; 19] = [
     change_behind_task,
     change_behind_message,
     change_head,
@@ -1088,6 +1147,7 @@ const CHANGES: [Change; 18] = [
     change_queue,
     change_mailbox,
     change_defined,
+    change_to_odd,
 ];
 
 fn random_task(random: &mut Random) -> usize {
@@ -1184,7 +1244,7 @@ fn change_task(state: &mut State, random: &mut Random) {
     let task = &mut state.tasks[random_task(random)];
     match random.from_to(0, 2) {
         0 => task.suspended = !task.suspended,
-        1 => task.code = random.one_of(&CODES),
+        1 => task.code = -i32::from(random.byte()),
         _ => task.priority = random.byte(),
     }
 }
@@ -1245,6 +1305,19 @@ fn change_defined(state: &mut State, random: &mut Random) {
         _ => &mut state.mailboxes[random_object(random)].defined,
     };
     *defined = !*defined;
+}
+
+// A number that says nothing, which counts but where it isn't kept.
+fn change_to_odd(state: &mut State, random: &mut Random) {
+    let (task, object) = (random_task(random), random_object(random));
+    let odd = match random.from_to(0, 4) {
+        0 => Flags(task, random.one_of(&[4, 7, 257, 1 << 31])),
+        1 => WaitNumber(task, random.from_to(4, 255) as u8),
+        2 => Timed(task, random.from_to(2, 255) as u8),
+        3 => QueueDefined(object, random.from_to(2, 255) as u8),
+        _ => MailboxDefined(object, random.from_to(2, 255) as u8),
+    };
+    state.odd.push(odd);
 }
 
 fn change_at_random(state: &mut State, random: &mut Random, times: usize) {
@@ -1342,6 +1415,7 @@ impl Tally {
 fn print_state(state: &State) {
     println!("first sentence that doesn't hold: {:?}", read(state).err());
     println!("counter {}", state.counter);
+    println!("numbers that say nothing: {:?}", state.odd);
     for (number, task) in state.tasks.iter().enumerate() {
         println!("task {number}: {task:?}");
     }

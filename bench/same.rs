@@ -118,12 +118,12 @@ fn damage(record: &mut Record, random: &mut Random) {
     let task = &mut record.tasks[random.below(33) as usize];
     let queue = &mut record.queues[random.below(17) as usize];
     let mailbox = &mut record.mailboxes[random.below(17) as usize];
-    match random.below(17) {
+    match random.below(20) {
         0 => task.wait = byte,
         1 => task.object = byte,
         2 => task.timed = byte,
         3 => task.code = byte,
-        4 => task.flags = byte,
+        4 => task.flags = random.pick(&[0, 1, 2, 3, 4, 256, 257, 1 << 31 | 1, u32::MAX]),
         5 => task.end = random.pick(&[0, 1, record.counter, record.counter.wrapping_sub(1), record.counter.wrapping_add(LONGEST_TMOUT as u32 + 1)]),
         6 => queue.ring.head = byte,
         7 => queue.ring.count = byte,
@@ -135,7 +135,10 @@ fn damage(record: &mut Record, random: &mut Random) {
         13 => mailbox.highest = byte,
         14 => record.waiting.link[random.below(81) as usize] = byte,
         15 => record.messages.link[random.below(81) as usize] = byte,
-        _ => record.waiting.key[random.below(65) as usize] = byte,
+        16 => record.waiting.key[random.below(65) as usize] = byte,
+        17 => queue.ring.spare = byte,
+        18 => queue.spare = byte.into(),
+        _ => record.spare = byte,
     }
 }
 
@@ -148,7 +151,17 @@ pub struct Counts {
     pub accepted: [u64; 24],
 }
 
-// A damaged record that is still sound may hold something in cells that say nothing. The library sets those to 0, so only answers are compared then.
+fn refused(call: Call, answer: Answer) -> bool {
+    call.number > FETCH || answer.kind == 0 && answer.code != E_OK && call.number != FETCH
+}
+
+// A call that changes nothing leaves every cell as it was, whatever it held.
+fn changes_nothing(call: Call, answer: Answer) -> bool {
+    refused(call, answer) || matches!(call.number, REF_DTQ | REF_MBX | LOOK | FETCH)
+}
+
+// A damaged record that is still sound may hold something in cells that say nothing. The two clear different ones of those, so after a change only
+// the answers are compared.
 fn same_on_damaged(record: &Record, call: Call, random: &mut Random, counts: &mut Counts) -> bool {
     let mut damaged = *record;
     damage(&mut damaged, random);
@@ -157,7 +170,9 @@ fn same_on_damaged(record: &Record, call: Call, random: &mut Random, counts: &mu
     let answer = proved.call(call);
     counts.damaged += 1;
     counts.unsound += u64::from(!is_sound);
-    is_sound == baseline::sound(&damaged) && answer == baseline::call(&mut hand, call) && (is_sound || proved == damaged && hand == damaged)
+    let other = baseline::call(&mut hand, call);
+    let as_it_was = proved == damaged && hand == damaged;
+    is_sound == baseline::sound(&damaged) && answer == other && (as_it_was || !changes_nothing(call, answer))
 }
 
 // Says where the two differ, or counts what was played.
@@ -180,9 +195,9 @@ pub fn play(calls: u64, seed: u64) -> Result<Counts, String> {
                 return Err(format!("{call:?}: {answer:?}, baseline {other:?}; records equal: {}\nbefore: {before:?}", proved == hand));
             }
             counts.calls += 1;
-            let refused = answer.kind == 0 && answer.code != E_OK && call.number != FETCH || call.number > FETCH;
-            counts.refused += u64::from(refused);
-            if !refused {
+            if refused(call, answer) {
+                counts.refused += 1;
+            } else {
                 counts.accepted[call.number as usize] += 1;
             }
         }

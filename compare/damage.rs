@@ -80,6 +80,14 @@ fn other_word(old: u32, random: &mut Random) -> u32 {
     }
 }
 
+/// One bit is changed, in any of the four bytes, or the whole word.
+fn other_flags(old: u32, random: &mut Random) -> u32 {
+    match random.below(2) {
+        0 => old ^ (1 << random.below(32)),
+        _ => other_word(old, random),
+    }
+}
+
 /// Changes a sound record.
 pub fn damage(record: &mut Record, damage: Damage, random: &mut Random) {
     match damage {
@@ -162,7 +170,7 @@ fn damage_task(task: &mut Task, random: &mut Random) {
         4 => task.object = other_byte(task.object, random),
         5 => task.timed = other_byte(task.timed, random),
         6 => task.code = other_byte(task.code, random),
-        _ => task.flags = other_byte(task.flags, random),
+        _ => task.flags = other_flags(task.flags, random),
     }
 }
 
@@ -299,7 +307,7 @@ fn damage_priority(record: &mut Record, random: &mut Random) {
 
 fn damage_defined(record: &mut Record, random: &mut Random) {
     match random.below(3) {
-        0 => record.tasks[index(random, TASKS)].flags = random.pick(&[0, 1, 2, 3, 4, 255]),
+        0 => record.tasks[index(random, TASKS)].flags = random.pick(&[0, 1, 2, 3, 4, 255, 257, 0x0001_0001, 0x0100_0001, u32::MAX]),
         1 => record.queues[index(random, QUEUES)].defined = random.pick(&[0, 1, 2, 255]),
         _ => record.mailboxes[index(random, MAILBOXES)].defined = random.pick(&[0, 1, 2, 255]),
     }

@@ -1,5 +1,5 @@
-//! One call on the kernel and on the second program: the answers must be the same and the states equal, and a refused call must leave every cell of
-//! the kernel's record.
+//! One call on the kernel and on the second program: the answers must be the same and the states equal, and a call that is refused, or only reads, must
+//! leave every byte of the kernel's record.
 use crate::record::{answer_in_words, kernel_answer, kernel_call, record_of, state_of};
 use linguastel::{number, Outcome, Record, E_OK};
 use second::{Answer, Call, Random, Reached, State};
@@ -21,9 +21,6 @@ impl Pair {
     pub fn play(&mut self, call: &Call, reached: &mut Reached) -> Result<Answer, String> {
         let before = self.record;
         let kernel = self.record.call(kernel_call(call));
-        if call.number == number::TICK {
-            self.compare_tick(&before, &kernel)?;
-        }
         let played = catch_unwind(AssertUnwindSafe(|| self.state.play(call, reached)));
         let second =
             played.map_err(|_| format!("the second program panics\ncall: {call}\n── the state before the call ──\n{}", words_of(&before)))?;
@@ -33,24 +30,12 @@ impl Pair {
         }
     }
 
-    /// The library's function for the tick does what its call of number 0 did.
-    fn compare_tick(&self, before: &Record, answer: &linguastel::Answer) -> Result<(), String> {
-        let mut record = *before;
-        let ticked = record.tick();
-        if ticked == *answer && record == self.record {
-            return Ok(());
-        }
-        let answers = format!("call of number 0: {}\ntick: {}", answer_in_words(answer), answer_in_words(&ticked));
-        let states = format!("── call of number 0 ──\n{}\n── tick ──\n{}", words_of(&self.record), words_of(&record));
-        Err(format!("the kernel's tick differs from its call of number 0\n{answers}\n── before ──\n{}\n{states}", words_of(before)))
-    }
-
     fn difference(&self, call: &Call, before: &Record, kernel: &linguastel::Answer, second: &Answer) -> Option<String> {
         if *kernel != kernel_answer(second) {
             return Some("the answers differ".to_string());
         }
         if leaves_the_record(call, kernel) && self.record != *before {
-            return Some(format!("the call is refused or a fetch, yet the record changed: {}", first_change(before, &self.record)));
+            return Some(format!("the call is refused or only reads, yet the record changed: {}", first_change(before, &self.record)));
         }
         match state_of(&self.record) {
             None => Some("no state can be read from the kernel's record".to_string()),
@@ -68,9 +53,10 @@ impl Pair {
     }
 }
 
-/// Whether a call with this answer changes no cell of the record. Fetch is named because its code may be that of an ended wait.
+/// Whether a call with this answer changes no byte of the record.
 fn leaves_the_record(call: &Call, answer: &linguastel::Answer) -> bool {
-    call.number == number::FETCH || !matches!(answer.outcome(), Outcome::Finished(E_OK) | Outcome::Waits(_))
+    let reads = matches!(call.number, number::REF_DTQ | number::REF_MBX | number::LOOK | number::FETCH);
+    reads || !matches!(answer.outcome(), Outcome::Finished(E_OK) | Outcome::Waits(_))
 }
 
 /// The lines that only one of two states in words has.
@@ -102,6 +88,7 @@ pub fn first_change(before: &Record, after: &Record) -> String {
         in_list("messages.link", &before.messages.link, &after.messages.link),
         in_list("messages.key", &before.messages.key, &after.messages.key),
         in_list("mailboxes", &before.mailboxes, &after.mailboxes),
+        in_list("spare", &[before.spare], &[after.spare]),
     ];
     lists.into_iter().flatten().next().unwrap_or("nothing".to_string())
 }

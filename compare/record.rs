@@ -2,7 +2,7 @@
 //!
 //! Document 01, 'A sound record', says what counts. The rest of a record is unused: cell 0 of every array, links of numbers that stand in no chain,
 //! keys of messages that keep no priority, what an undefined task or object left behind, the fields that a wait doesn't use, a ring's cells outside
-//! its stored words. `state_of` never looks at those, and `record_of` fills them with random numbers.
+//! its stored words, the spare fields. `state_of` never looks at those, and `record_of` fills them with random numbers.
 use linguastel::{Record, AT_MAILBOX, DEFINED, NO_WAIT, RECEIVING, SENDING, SUSPENDED};
 use second::{Answer, Call, Mailbox, Message, Queue, Random, State, Task, Wait};
 
@@ -166,8 +166,10 @@ pub fn random_record(random: &mut Random) -> Record {
         queue.ring.head = random_byte(random);
         queue.ring.count = random_byte(random);
         queue.ring.capacity = random_byte(random);
+        queue.ring.spare = random_byte(random);
         queue.defined = random_byte(random);
         queue.attribute = random_byte(random);
+        queue.spare = random.bits() as u16;
     }
     for chains in [&mut record.waiting, &mut record.messages] {
         for byte in chains.link.iter_mut().chain(chains.key.iter_mut()) {
@@ -178,6 +180,7 @@ pub fn random_record(random: &mut Random) -> Record {
         let [defined, attribute, highest] = [random_byte(random), random_byte(random), random_byte(random)];
         *mailbox = linguastel::Mailbox { defined, attribute, highest };
     }
+    record.spare = random_byte(random);
     record
 }
 
@@ -190,7 +193,7 @@ fn random_task(random: &mut Random) -> linguastel::Task {
         object: random_byte(random),
         timed: random_byte(random),
         code: random_byte(random),
-        flags: random_byte(random),
+        flags: random_word(random),
     }
 }
 
@@ -367,12 +370,15 @@ mod tests {
     #[test]
     fn what_cannot_be_read() {
         let (record, _) = example();
-        let changes: [(&str, fn(&mut Record)); 9] = [
+        let changes: [(&str, fn(&mut Record)); 12] = [
             ("chain that comes round", |record| record.waiting.link[2] = 2),
             ("chain that leaves the table", |record| record.waiting.link[2] = 33),
             ("messages that come round", |record| record.messages.link[64] = 64),
             ("messages that leave the table", |record| record.messages.link[64] = 65),
             ("flags", |record| record.tasks[3].flags = 4),
+            ("second byte of the flags", |record| record.tasks[1].flags |= 1 << 8),
+            ("third byte of the flags", |record| record.tasks[1].flags |= 1 << 16),
+            ("last byte of the flags", |record| record.tasks[1].flags |= 1 << 31),
             ("kind of wait", |record| record.tasks[3].wait = 4),
             ("timed", |record| record.tasks[2].timed = 2),
             ("defined", |record| record.queues[2].defined = 2),

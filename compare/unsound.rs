@@ -1,5 +1,5 @@
 //! Records of any kind. The second program judges what was read from one; the kernel's own test must agree. Where the record isn't sound, every
-//! call of known number gets E_SYS and every other one E_PAR, with zero words, and no cell changes. Where it is sound, calls are compared as usual.
+//! call of known number gets E_SYS and every other one E_PAR, with zero words, and no byte changes. Where it is sound, calls are compared as usual.
 use crate::damage::{damage, DAMAGES};
 use crate::limits::next_call;
 use crate::play::{first_change, Pair};

@@ -1,11 +1,17 @@
 /*
- * Tests the boundary between a host in C and the library: the layout, bad pointers and numbers, records that aren't sound, and hosts/runs through the
- * header. `boundary FOLDER` reads the runs from that folder. The last line is 'N checks, M failed'; the exit status is 1 where one failed.
+ * Tests the boundary between a host in C and the library: the layout, bad pointers and numbers, records that aren't sound, what calls write, and
+ * hosts/runs through the header. `boundary FOLDER` reads the runs from that folder. The last line is 'N checks, M failed'; the exit status is 1 where
+ * one failed.
  */
+#define _DEFAULT_SOURCE /* for mmap and sigaction, which C11 alone doesn't have */
 #include <inttypes.h>
+#include <setjmp.h>
+#include <signal.h>
 #include <stdio.h>
 #include <stdlib.h>
 #include <string.h>
+#include <sys/mman.h>
+#include <unistd.h>
 
 #include "linguastel.h"
 
@@ -36,29 +42,10 @@ static void check_refused(LinguastelAnswer answer, int32_t code, const char *wha
     check(same_answer(answer, linguastel_refusal(code)), what);
 }
 
-/* The fields of a task and of a ring have no gaps before their last one. */
-static bool same_task(const LinguastelTask *x, const LinguastelTask *y)
+/* Every byte of a record belongs to a field, so all of them count. */
+static bool same_record(const LinguastelRecord *x, const LinguastelRecord *y)
 {
-    return memcmp(x, y, offsetof(LinguastelTask, flags) + 1) == 0;
-}
-
-static bool same_queue(const LinguastelQueue *x, const LinguastelQueue *y)
-{
-    return memcmp(&x->ring, &y->ring, offsetof(LinguastelRing, capacity) + 1) == 0 && x->defined == y->defined && x->attribute == y->attribute;
-}
-
-/* Whether all fields are the same; the bytes between them aren't promised. */
-static bool same_fields(const LinguastelRecord *x, const LinguastelRecord *y)
-{
-    bool same = x->counter == y->counter;
-    for (size_t t = 0; t < LENGTH(x->tasks); t++) {
-        same = same && same_task(&x->tasks[t], &y->tasks[t]);
-    }
-    for (size_t q = 0; q < LENGTH(x->queues); q++) {
-        same = same && same_queue(&x->queues[q], &y->queues[q]);
-    }
-    return same && memcmp(&x->waiting, &y->waiting, sizeof x->waiting) == 0 && memcmp(&x->messages, &y->messages, sizeof x->messages) == 0
-        && memcmp(x->mailboxes, y->mailboxes, sizeof x->mailboxes) == 0;
+    return memcmp(x, y, sizeof *x) == 0;
 }
 
 /* ---- Records ---- */
@@ -76,6 +63,11 @@ static uint32_t noise(void)
 static uint8_t noise_byte(void)
 {
     return (uint8_t)(noise() >> 24);
+}
+
+static uint32_t noise_below(uint32_t limit)
+{
+    return (noise() >> 8) % limit;
 }
 
 static void fill_with_noise(void *memory, size_t size)
@@ -142,6 +134,8 @@ static void spoil_queues(LinguastelRecord *record)
         for (size_t i = queue->ring.count; i < LINGUASTEL_WORDS; i++) {
             queue->ring.words[(queue->ring.head + i) % LINGUASTEL_WORDS] = noise();
         }
+        queue->ring.spare = noise_byte();
+        queue->spare = (uint16_t)noise();
         if (queue->defined == 0) {
             queue->ring.head = noise_byte();
             queue->ring.capacity = noise_byte();
@@ -194,6 +188,82 @@ static void spoil_unused(LinguastelRecord *record)
     record->waiting.link[0] = noise_byte();
     record->waiting.key[0] = noise_byte();
     fill_with_noise(&record->waiting.key[LINGUASTEL_TASKS + 1], sizeof record->waiting.key - LINGUASTEL_TASKS - 1);
+    record->spare = noise_byte();
+}
+
+/* ---- A record that may only be read ---- */
+
+/* The record stands at the start or at the end of a page. The pages on either side may not even be read. */
+typedef enum { AT_START, AT_END } Place;
+
+static uint8_t *page;
+static size_t page_size;
+
+static void make_page(void)
+{
+    page_size = (size_t)sysconf(_SC_PAGESIZE);
+    void *pages = mmap(NULL, 3 * page_size, PROT_NONE, MAP_PRIVATE | MAP_ANONYMOUS, -1, 0);
+    if (pages == MAP_FAILED) {
+        perror("mmap");
+        exit(EXIT_FAILURE);
+    }
+    page = (uint8_t *)pages + page_size;
+}
+
+static void allow(int access)
+{
+    if (mprotect(page, page_size, access) != 0) {
+        perror("mprotect");
+        exit(EXIT_FAILURE);
+    }
+}
+
+static LinguastelRecord *read_only(const LinguastelRecord *content, Place place)
+{
+    void *lent = page + (place == AT_END ? page_size - sizeof *content : 0);
+    allow(PROT_READ | PROT_WRITE);
+    memcpy(lent, content, sizeof *content);
+    allow(PROT_READ);
+    return lent;
+}
+
+static sigjmp_buf back;
+
+static void go_back(int number)
+{
+    (void)number;
+    siglongjmp(back, 1);
+}
+
+/* Whether the call touches memory that it may not touch; it has no answer then. */
+static bool is_caught(LinguastelRecord *lent, LinguastelCall call, LinguastelAnswer *answer)
+{
+    struct sigaction catch, before;
+    memset(&catch, 0, sizeof catch);
+    catch.sa_handler = go_back;
+    sigaction(SIGSEGV, &catch, &before);
+    volatile bool caught = true;
+    if (sigsetjmp(back, 1) == 0) {
+        *answer = linguastel_call(lent, call);
+        caught = false;
+    }
+    sigaction(SIGSEGV, &before, NULL);
+    return caught;
+}
+
+/* The call gives this answer and writes nothing into such a record. */
+static void check_writes_nothing(const LinguastelRecord *record, LinguastelCall call, LinguastelAnswer expected, const char *what)
+{
+    for (Place place = AT_START; place <= AT_END; place++) {
+        LinguastelAnswer answer = { 0 };
+        check(!is_caught(read_only(record, place), call, &answer), what);
+        check(same_answer(answer, expected), what);
+    }
+}
+
+static bool only_reads(uint32_t number)
+{
+    return number == LINGUASTEL_REF_DTQ || number == LINGUASTEL_REF_MBX || number == LINGUASTEL_LOOK || number == LINGUASTEL_FETCH;
 }
 
 /* ---- Groups: layout and pointers ---- */
@@ -284,25 +354,23 @@ static void test_callers_and_objects(void)
         check_refused(linguastel_icre_dtq(&record, 3, too_large[i], 1), LINGUASTEL_E_PAR, "attribute");
         check_refused(linguastel_idefine_task(&record, 5, too_large[i]), LINGUASTEL_E_PAR, "priority");
     }
-    check(same_fields(&record, &before), "no field changes");
+    check(same_record(&record, &before), "no byte changes");
 }
 
 static void test_unknown_numbers(void)
 {
     static const uint32_t unknown[] = { 24, 255, 256, 257, 279, 4294967295 };
-    LinguastelRecord sound, unsound, before;
+    LinguastelRecord sound, unsound;
     make_typical(&sound);
     fill_with_noise(&unsound, sizeof unsound);
-    before = unsound;
     for (size_t i = 0; i < LENGTH(unknown); i++) {
         LinguastelCall call = { .number = unknown[i], .caller = 77, .locked = 1 };
-        check_refused(linguastel_call(&sound, call), LINGUASTEL_E_PAR, "a sound record");
-        check_refused(linguastel_call(&unsound, call), LINGUASTEL_E_PAR, "a record that isn't sound");
+        check_writes_nothing(&sound, call, linguastel_refusal(LINGUASTEL_E_PAR), "a sound record");
+        check_writes_nothing(&unsound, call, linguastel_refusal(LINGUASTEL_E_PAR), "a record that isn't sound");
     }
-    check(same_fields(&unsound, &before), "no field changes");
 }
 
-static void test_flags(void)
+static void test_locked_and_disabled(void)
 {
     static const uint32_t yes[] = { 1, 2, 256, 65536, 2147483648, 4294967295 };
     LinguastelRecord record;
@@ -317,16 +385,14 @@ static void test_flags(void)
 
 /* ---- Groups: records that aren't sound ---- */
 
-/* Every call of a known number, and the tick, is refused and changes nothing. */
-static void check_unsound(LinguastelRecord *record, const char *what)
+/* Every call of a known number is refused and writes nothing; number 0 is the tick. */
+static void check_unsound(const LinguastelRecord *record, const char *what)
 {
-    LinguastelRecord before = *record;
     check(!linguastel_sound(record), what);
     for (uint32_t number = 0; number <= LINGUASTEL_LAST_CALL; number++) {
-        check_refused(linguastel_call(record, (LinguastelCall){ .number = number, .object = 1, .value = 1 }), LINGUASTEL_E_SYS, what);
+        LinguastelCall call = { .number = number, .object = 1, .value = 1 };
+        check_writes_nothing(record, call, linguastel_refusal(LINGUASTEL_E_SYS), what);
     }
-    check_refused(linguastel_tick(record), LINGUASTEL_E_SYS, what);
-    check(same_fields(record, &before), what);
 }
 
 static void test_random_bytes(void)
@@ -390,6 +456,143 @@ static void test_faults(void)
     }
 }
 #undef AT
+
+/* A task's flags are 0, 1 or 3, in all of their 32 bits. */
+static void test_damaged_flags(void)
+{
+    static const uint32_t damaged[] = { 2, 4, 5, 255, 256, 257, 0x00010001, 0x00030000, 0x01000001, 0x03000000, 0x80000001, 0xfffffffe, 0xffffffff };
+    LinguastelRecord typical, record;
+    make_typical(&typical);
+    for (size_t t = 1; t <= LINGUASTEL_TASKS; t++) {
+        for (size_t i = 0; i < LENGTH(damaged); i++) {
+            record = typical;
+            record.tasks[t].flags = damaged[i];
+            check_unsound(&record, "damaged flags");
+        }
+    }
+}
+
+/* ---- Groups: what calls write ---- */
+
+/* The typical record with a data queue of capacity 0, a suspended task, and tasks 5 to 7 whose waits ended. */
+static void make_various(LinguastelRecord *record)
+{
+    make_typical(record);
+    linguastel_icre_dtq(record, 3, LINGUASTEL_TA_TFIFO, 0);
+    linguastel_icre_dtq(record, 4, LINGUASTEL_TA_TFIFO, 1);
+    linguastel_isus_tsk(record, 2);
+    for (uint32_t task = 5; task <= 7; task++) {
+        linguastel_idefine_task(record, task, 1);
+        linguastel_trcv_dtq(record, linguastel_as_task(task), 4, task == 6 ? 1 : LINGUASTEL_FOREVER);
+    }
+    linguastel_irel_wai(record, 5);
+    linguastel_guarded_tick(record);
+    linguastel_del_dtq(record, linguastel_as_task(3), 4);
+}
+
+typedef struct {
+    LinguastelCall call;
+    int32_t code;
+    const char *what;
+} Without;
+
+/* Calls that change nothing: refused ones, then those that only read. */
+static const Without without_change[] = {
+    { { .number = LINGUASTEL_LAST_CALL + 1 }, LINGUASTEL_E_PAR, "E_PAR: an unknown number" },
+    { { .number = LINGUASTEL_REF_DTQ, .caller = 33, .object = 1 }, LINGUASTEL_E_SYS, "E_SYS: a caller that nobody is" },
+    { { .number = LINGUASTEL_SND_DTQ, .caller = 1, .object = 1 }, LINGUASTEL_E_SYS, "E_SYS: a caller that waits" },
+    { { .number = LINGUASTEL_PSND_DTQ, .caller = 3, .locked = 1, .object = 1 }, LINGUASTEL_E_CTX, "E_CTX: locked" },
+    { { .number = LINGUASTEL_RCV_DTQ, .object = 1 }, LINGUASTEL_E_CTX, "E_CTX: a handler" },
+    { { .number = LINGUASTEL_PSND_DTQ, .object = 17, .value = 5 }, LINGUASTEL_E_ID, "E_ID" },
+    { { .number = LINGUASTEL_CRE_DTQ, .object = 5, .value = 17 }, LINGUASTEL_E_PAR, "E_PAR: a capacity" },
+    { { .number = LINGUASTEL_TRCV_DTQ, .caller = 3, .object = 1, .tmout = -2 }, LINGUASTEL_E_PAR, "E_PAR: a tmout" },
+    { { .number = LINGUASTEL_FSND_DTQ, .object = 4, .value = 5 }, LINGUASTEL_E_NOEXS, "E_NOEXS" },
+    { { .number = LINGUASTEL_SND_MBX, .object = 2, .value = 1, .attribute = 10 }, LINGUASTEL_E_PAR, "E_PAR: above the highest message priority" },
+    { { .number = LINGUASTEL_SND_MBX, .object = 2, .value = 33, .attribute = 1 }, LINGUASTEL_E_OBJ, "E_OBJ: a queued message" },
+    { { .number = LINGUASTEL_DEFINE_TASK, .object = 3, .value = 5 }, LINGUASTEL_E_OBJ, "E_OBJ: a defined task" },
+    { { .number = LINGUASTEL_FETCH, .object = 1 }, LINGUASTEL_E_OBJ, "E_OBJ: fetch of a waiting task" },
+    { { .number = LINGUASTEL_SUS_TSK, .object = 2 }, LINGUASTEL_E_QOVR, "E_QOVR" },
+    { { .number = LINGUASTEL_FSND_DTQ, .object = 3, .value = 5 }, LINGUASTEL_E_ILUSE, "E_ILUSE" },
+    { { .number = LINGUASTEL_PSND_DTQ, .object = 2, .value = 5 }, LINGUASTEL_E_TMOUT, "E_TMOUT: a poll" },
+    { { .number = LINGUASTEL_TRCV_MBX, .caller = 3, .object = 1 }, LINGUASTEL_E_TMOUT, "E_TMOUT: tmout 0" },
+    { { .number = LINGUASTEL_LOOK, .object = 1 }, LINGUASTEL_E_OK, "look" },
+    { { .number = LINGUASTEL_REF_DTQ, .object = 2 }, LINGUASTEL_E_OK, "ref_dtq" },
+    { { .number = LINGUASTEL_REF_MBX, .object = 2 }, LINGUASTEL_E_OK, "ref_mbx" },
+    { { .number = LINGUASTEL_FETCH, .object = 3 }, LINGUASTEL_E_OK, "fetch" },
+    { { .number = LINGUASTEL_FETCH, .object = 5 }, LINGUASTEL_E_RLWAI, "fetch of a released wait" },
+    { { .number = LINGUASTEL_FETCH, .object = 6 }, LINGUASTEL_E_TMOUT, "fetch of a wait whose time was over" },
+    { { .number = LINGUASTEL_FETCH, .object = 7 }, LINGUASTEL_E_DLT, "fetch of a wait at what was deleted" },
+};
+
+static void test_writes_nothing(void)
+{
+    LinguastelRecord various, record;
+    make_various(&various);
+    for (size_t i = 0; i < LENGTH(without_change); i++) {
+        const Without *row = &without_change[i];
+        record = various;
+        LinguastelAnswer answer = linguastel_call(&record, row->call);
+        check(answer.kind == LINGUASTEL_FINISHED && answer.code == row->code, row->what);
+        check(same_record(&record, &various), row->what);
+        check_writes_nothing(&various, row->call, answer, row->what);
+    }
+    LinguastelAnswer answer;
+    check(is_caught(read_only(&various, AT_START), (LinguastelCall){ .number = LINGUASTEL_TICK }, &answer), "a call that writes is caught");
+}
+
+/* Leaves this number all over the stack below the caller, where the next call has its locals; a call uses less than half of that. */
+static __attribute__((noinline)) void paint_stack(uint64_t number)
+{
+    volatile uint64_t below[8192];
+    for (size_t i = 0; i < LENGTH(below); i++) {
+        below[i] = number;
+    }
+}
+
+static const uint64_t paints[] = { 0x1111111111111111, 0xeeeeeeeeeeeeeeee };
+
+/* Few tasks, objects and messages, so that they meet. */
+static LinguastelCall random_call(void)
+{
+    LinguastelCall call = { .number = noise_below(LINGUASTEL_LAST_CALL + 1) };
+    call.caller = noise_below(8);
+    call.object = 1 + noise_below(4);
+    call.value = noise_below(17);
+    call.attribute = noise_below(4);
+    call.tmout = (int32_t)noise_below(8) - 1;
+    return call;
+}
+
+/* The same calls on two records, with other bytes on the stack: what a call leaves in a record doesn't come from there. */
+static void test_stack(void)
+{
+    unsigned accepted[LINGUASTEL_LAST_CALL + 1] = { 0 };
+    LinguastelRecord record, twin;
+    memset(&record, 0x11, sizeof record);
+    memset(&twin, 0xee, sizeof twin);
+    paint_stack(paints[0]);
+    linguastel_empty(&record);
+    paint_stack(paints[1]);
+    linguastel_empty(&twin);
+    check(same_record(&record, &twin), "the empty record");
+    for (unsigned i = 0; i < 20000; i++) {
+        if (i % 8 == 0) {
+            spoil_unused(&record);
+            twin = record;
+        }
+        LinguastelCall call = random_call();
+        paint_stack(paints[0]);
+        LinguastelAnswer answer = linguastel_call(&record, call);
+        paint_stack(paints[1]);
+        check(same_answer(linguastel_call(&twin, call), answer), "the answer");
+        check(same_record(&record, &twin), "a byte comes from the stack");
+        accepted[call.number] += answer.code == LINGUASTEL_E_OK;
+    }
+    for (size_t number = 0; number < LENGTH(accepted); number++) {
+        check(accepted[number] > 0, "a call of each number is accepted");
+    }
+    check(linguastel_sound(&record), "the record is sound after all calls");
+}
 
 /* ---- Groups: the record as C sees it ---- */
 
@@ -557,7 +760,7 @@ static bool answer_is(LinguastelAnswer answer, const Line *line)
 
 typedef LinguastelAnswer Way(LinguastelRecord *record, LinguastelCall call);
 
-/* Each call meets noise in all unused fields. A refused call, and fetch, changes no field, not even those. */
+/* Each call meets noise in all unused fields. Where it is refused or only reads, it writes nothing, not even there. */
 static void play_call(LinguastelRecord *record, Way *way, const Line *line, const char *text)
 {
     spoil_unused(record);
@@ -565,8 +768,9 @@ static void play_call(LinguastelRecord *record, Way *way, const Line *line, cons
     LinguastelRecord before = *record;
     LinguastelAnswer answer = way(record, line->call);
     check(answer_is(answer, line), text);
-    if (answer.code != LINGUASTEL_E_OK || line->call.number == LINGUASTEL_FETCH) {
-        check(same_fields(record, &before), text);
+    if (answer.code != LINGUASTEL_E_OK || only_reads(line->call.number)) {
+        check(same_record(record, &before), text);
+        check_writes_nothing(&before, line->call, answer, text);
     }
 }
 
@@ -644,9 +848,12 @@ static const struct {
     { "null and misaligned pointers", test_pointers },
     { "callers and objects that nobody has", test_callers_and_objects },
     { "unknown call numbers", test_unknown_numbers },
-    { "locked and disabled as numbers", test_flags },
+    { "locked and disabled as numbers", test_locked_and_disabled },
     { "records of random bytes", test_random_bytes },
     { "records with one fault", test_faults },
+    { "records with damaged flags", test_damaged_flags },
+    { "calls that write nothing", test_writes_nothing },
+    { "bytes of the stack", test_stack },
     { "the record as C sees it", test_view },
     { "the sixteen runs of document 01", test_sixteen_runs },
     { "each call, accepted", test_each_call },
@@ -656,6 +863,7 @@ static const struct {
 int main(int count, char **arguments)
 {
     folder = count > 1 ? arguments[1] : "hosts/runs";
+    make_page();
     for (size_t i = 0; i < LENGTH(groups); i++) {
         unsigned before = checks;
         group = groups[i].name;

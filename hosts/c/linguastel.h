@@ -101,7 +101,7 @@ typedef struct {
     uint8_t object; /* the data queue or mailbox of the wait */
     uint8_t timed; /* 1 where a tick ends the wait, else 0 */
     uint8_t code; /* of the stored pair, without its minus sign */
-    uint8_t flags;
+    uint32_t flags;
 } LinguastelTask;
 
 /* The stored words start at words[head] and go on, from the last place to the first. */
@@ -110,12 +110,14 @@ typedef struct {
     uint8_t head;
     uint8_t count;
     uint8_t capacity;
+    uint8_t spare;
 } LinguastelRing;
 
 typedef struct {
     LinguastelRing ring;
     uint8_t defined; /* 1 or 0 */
     uint8_t attribute;
+    uint16_t spare;
 } LinguastelQueue;
 
 typedef struct {
@@ -139,6 +141,9 @@ enum { LINGUASTEL_HEADS_OF_SENDERS = 32, LINGUASTEL_HEADS_OF_RECEIVERS = 48, LIN
 /*
  * Entry n of each array belongs to number n, entry 0 to nobody. A host may read the record between calls. What it writes there is taken as it is if the
  * record is then sound; else every call of a known number answers E_SYS.
+ *
+ * Every byte belongs to a field, so that records can be copied and compared as bytes. A field named spare says nothing: whatever it holds, the record
+ * means the same.
  */
 typedef struct {
     uint32_t counter;
@@ -147,6 +152,7 @@ typedef struct {
     LinguastelChains waiting; /* the tasks that wait, with the priorities of all tasks */
     LinguastelChains messages; /* the messages that are queued, with the priorities kept for them */
     LinguastelMailbox mailboxes[LINGUASTEL_MAILBOXES + 1];
+    uint8_t spare;
 } LinguastelRecord;
 
 /* ---- A call and its answer ---- */
@@ -181,14 +187,16 @@ typedef struct {
 
 /* ---- The layout: the library was compiled for these places ---- */
 
-#define LINGUASTEL_LAYOUT(type, size, align) \
+#define LINGUASTEL_SIZE(type, field) sizeof(((type *)0)->field)
+/* Fields whose sizes add up to their struct's leave no byte between or behind them. */
+#define LINGUASTEL_LAYOUT(type, size, align, sizes_of_fields) \
     _Static_assert(sizeof(type) == (size), "size of " #type); \
-    _Static_assert(_Alignof(type) == (align), "alignment of " #type)
+    _Static_assert(_Alignof(type) == (align), "alignment of " #type); \
+    _Static_assert((sizes_of_fields) == (size), "a byte of " #type " belongs to no field")
 #define LINGUASTEL_FIELD(type, field, offset, size) \
     _Static_assert(offsetof(type, field) == (offset), "place of " #type "." #field); \
-    _Static_assert(sizeof(((type *)0)->field) == (size), "size of " #type "." #field)
+    _Static_assert(LINGUASTEL_SIZE(type, field) == (size), "size of " #type "." #field)
 
-LINGUASTEL_LAYOUT(LinguastelTask, 20, 4);
 LINGUASTEL_FIELD(LinguastelTask, word, 0, 4);
 LINGUASTEL_FIELD(LinguastelTask, end, 4, 4);
 LINGUASTEL_FIELD(LinguastelTask, sending, 8, 4);
@@ -196,37 +204,51 @@ LINGUASTEL_FIELD(LinguastelTask, wait, 12, 1);
 LINGUASTEL_FIELD(LinguastelTask, object, 13, 1);
 LINGUASTEL_FIELD(LinguastelTask, timed, 14, 1);
 LINGUASTEL_FIELD(LinguastelTask, code, 15, 1);
-LINGUASTEL_FIELD(LinguastelTask, flags, 16, 1);
+LINGUASTEL_FIELD(LinguastelTask, flags, 16, 4);
+LINGUASTEL_LAYOUT(LinguastelTask, 20, 4,
+    LINGUASTEL_SIZE(LinguastelTask, word) + LINGUASTEL_SIZE(LinguastelTask, end) + LINGUASTEL_SIZE(LinguastelTask, sending)
+        + LINGUASTEL_SIZE(LinguastelTask, wait) + LINGUASTEL_SIZE(LinguastelTask, object) + LINGUASTEL_SIZE(LinguastelTask, timed)
+        + LINGUASTEL_SIZE(LinguastelTask, code) + LINGUASTEL_SIZE(LinguastelTask, flags));
 
-LINGUASTEL_LAYOUT(LinguastelRing, 68, 4);
 LINGUASTEL_FIELD(LinguastelRing, words, 0, 64);
 LINGUASTEL_FIELD(LinguastelRing, head, 64, 1);
 LINGUASTEL_FIELD(LinguastelRing, count, 65, 1);
 LINGUASTEL_FIELD(LinguastelRing, capacity, 66, 1);
+LINGUASTEL_FIELD(LinguastelRing, spare, 67, 1);
+LINGUASTEL_LAYOUT(LinguastelRing, 68, 4,
+    LINGUASTEL_SIZE(LinguastelRing, words) + LINGUASTEL_SIZE(LinguastelRing, head) + LINGUASTEL_SIZE(LinguastelRing, count)
+        + LINGUASTEL_SIZE(LinguastelRing, capacity) + LINGUASTEL_SIZE(LinguastelRing, spare));
 
-LINGUASTEL_LAYOUT(LinguastelQueue, 72, 4);
 LINGUASTEL_FIELD(LinguastelQueue, ring, 0, 68);
 LINGUASTEL_FIELD(LinguastelQueue, defined, 68, 1);
 LINGUASTEL_FIELD(LinguastelQueue, attribute, 69, 1);
+LINGUASTEL_FIELD(LinguastelQueue, spare, 70, 2);
+LINGUASTEL_LAYOUT(LinguastelQueue, 72, 4,
+    LINGUASTEL_SIZE(LinguastelQueue, ring) + LINGUASTEL_SIZE(LinguastelQueue, defined) + LINGUASTEL_SIZE(LinguastelQueue, attribute)
+        + LINGUASTEL_SIZE(LinguastelQueue, spare));
 
-LINGUASTEL_LAYOUT(LinguastelMailbox, 3, 1);
 LINGUASTEL_FIELD(LinguastelMailbox, defined, 0, 1);
 LINGUASTEL_FIELD(LinguastelMailbox, attribute, 1, 1);
 LINGUASTEL_FIELD(LinguastelMailbox, highest, 2, 1);
+LINGUASTEL_LAYOUT(LinguastelMailbox, 3, 1,
+    LINGUASTEL_SIZE(LinguastelMailbox, defined) + LINGUASTEL_SIZE(LinguastelMailbox, attribute) + LINGUASTEL_SIZE(LinguastelMailbox, highest));
 
-LINGUASTEL_LAYOUT(LinguastelChains, 146, 1);
 LINGUASTEL_FIELD(LinguastelChains, link, 0, 81);
 LINGUASTEL_FIELD(LinguastelChains, key, 81, 65);
+LINGUASTEL_LAYOUT(LinguastelChains, 146, 1, LINGUASTEL_SIZE(LinguastelChains, link) + LINGUASTEL_SIZE(LinguastelChains, key));
 
-LINGUASTEL_LAYOUT(LinguastelRecord, 2232, 4);
 LINGUASTEL_FIELD(LinguastelRecord, counter, 0, 4);
 LINGUASTEL_FIELD(LinguastelRecord, tasks, 4, 660);
 LINGUASTEL_FIELD(LinguastelRecord, queues, 664, 1224);
 LINGUASTEL_FIELD(LinguastelRecord, waiting, 1888, 146);
 LINGUASTEL_FIELD(LinguastelRecord, messages, 2034, 146);
 LINGUASTEL_FIELD(LinguastelRecord, mailboxes, 2180, 51);
+LINGUASTEL_FIELD(LinguastelRecord, spare, 2231, 1);
+LINGUASTEL_LAYOUT(LinguastelRecord, 2232, 4,
+    LINGUASTEL_SIZE(LinguastelRecord, counter) + LINGUASTEL_SIZE(LinguastelRecord, tasks) + LINGUASTEL_SIZE(LinguastelRecord, queues)
+        + LINGUASTEL_SIZE(LinguastelRecord, waiting) + LINGUASTEL_SIZE(LinguastelRecord, messages) + LINGUASTEL_SIZE(LinguastelRecord, mailboxes)
+        + LINGUASTEL_SIZE(LinguastelRecord, spare));
 
-LINGUASTEL_LAYOUT(LinguastelCall, 32, 4);
 LINGUASTEL_FIELD(LinguastelCall, number, 0, 4);
 LINGUASTEL_FIELD(LinguastelCall, caller, 4, 4);
 LINGUASTEL_FIELD(LinguastelCall, locked, 8, 4);
@@ -235,15 +257,22 @@ LINGUASTEL_FIELD(LinguastelCall, object, 16, 4);
 LINGUASTEL_FIELD(LinguastelCall, value, 20, 4);
 LINGUASTEL_FIELD(LinguastelCall, tmout, 24, 4);
 LINGUASTEL_FIELD(LinguastelCall, attribute, 28, 4);
+LINGUASTEL_LAYOUT(LinguastelCall, 32, 4,
+    LINGUASTEL_SIZE(LinguastelCall, number) + LINGUASTEL_SIZE(LinguastelCall, caller) + LINGUASTEL_SIZE(LinguastelCall, locked)
+        + LINGUASTEL_SIZE(LinguastelCall, disabled) + LINGUASTEL_SIZE(LinguastelCall, object) + LINGUASTEL_SIZE(LinguastelCall, value)
+        + LINGUASTEL_SIZE(LinguastelCall, tmout) + LINGUASTEL_SIZE(LinguastelCall, attribute));
 
-LINGUASTEL_LAYOUT(LinguastelAnswer, 24, 4);
 LINGUASTEL_FIELD(LinguastelAnswer, kind, 0, 4);
 LINGUASTEL_FIELD(LinguastelAnswer, code, 4, 4);
 LINGUASTEL_FIELD(LinguastelAnswer, place, 8, 4);
 LINGUASTEL_FIELD(LinguastelAnswer, a, 12, 4);
 LINGUASTEL_FIELD(LinguastelAnswer, b, 16, 4);
 LINGUASTEL_FIELD(LinguastelAnswer, c, 20, 4);
+LINGUASTEL_LAYOUT(LinguastelAnswer, 24, 4,
+    LINGUASTEL_SIZE(LinguastelAnswer, kind) + LINGUASTEL_SIZE(LinguastelAnswer, code) + LINGUASTEL_SIZE(LinguastelAnswer, place)
+        + LINGUASTEL_SIZE(LinguastelAnswer, a) + LINGUASTEL_SIZE(LinguastelAnswer, b) + LINGUASTEL_SIZE(LinguastelAnswer, c));
 
+#undef LINGUASTEL_SIZE
 #undef LINGUASTEL_LAYOUT
 #undef LINGUASTEL_FIELD
 
@@ -255,12 +284,23 @@ size_t linguastel_record_align(void);
 /* Makes the record empty, whatever its bytes were: nothing is defined, the counter is 0. */
 void linguastel_empty(LinguastelRecord *record);
 
-bool linguastel_sound(const LinguastelRecord *record);
-
-/* One call; number 0 is the tick. A refused call changes no field. The bytes between fields are not promised. */
+/* One call; number 0 is the tick. A refused call writes nothing into the record, and neither do look, ref_dtq, ref_mbx and fetch. */
 LinguastelAnswer linguastel_call(LinguastelRecord *record, LinguastelCall call);
 
-LinguastelAnswer linguastel_tick(LinguastelRecord *record);
+/* The tick has no context. It is no function of the library: one that called the step from a second place would make both dearer. */
+static inline LinguastelAnswer linguastel_tick(LinguastelRecord *record)
+{
+    return linguastel_call(record, (LinguastelCall){ .number = LINGUASTEL_TICK });
+}
+
+/*
+ * Whether the record is sound, whatever its bytes are. Nor is this a function of the library: look, by caller 0 of task 0, is refused with E_SYS exactly where
+ * the record isn't sound, and writes nothing (the theorem `sound-by-call`), so the record may be const.
+ */
+static inline bool linguastel_sound(const LinguastelRecord *record)
+{
+    return linguastel_call((LinguastelRecord *)record, (LinguastelCall){ .number = LINGUASTEL_LOOK }).code != LINGUASTEL_E_SYS;
+}
 
 /* ---- The same with a test of the pointer ---- */
 

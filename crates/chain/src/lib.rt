@@ -7,7 +7,7 @@
 ghost use mathlib.Core.Path.{_≡_};
 ghost use mathlib.Core.List.{[], headD};
 ghost use Prim.Native.Nat.{_<_};
-ghost use lib.ListN.{length, getD};
+ghost use lib.ListN.{length, getD, set};
 ghost use Rattle.chain.specs.Table.{key-cells, lists, chain-of, Sound};
 ghost use Rattle.chain.specs.Walks.{Walk, Passes, Sought, Found};
 ghost use Rattle.chain.specs.Changes.{New, HasChain, Changed, Insertable, Inserted, Popped, Removed, StandsIn};
@@ -22,7 +22,7 @@ pub const KEY_CELLS: usize = 65;
 pub const EVERY_KEY: u8 = 255;
 
 // A table of chains, with a key for each number: a task's priority, or the priority kept with a message. A caller lends `link`
-// to the functions below and looks at none of its cells.
+// and `key` to the functions below and looks at none of their cells.
 #[repr(C)]
 pub struct Chains {
     pub link: [u8; CELLS],
@@ -103,6 +103,22 @@ fn find(link: &[u8; CELLS], numbers: usize, head: usize, number: u8) -> Spot
         next = link[at];
     }
     Spot { at, place }
+}
+
+// The key of a number.
+pub fn key(keys: &[u8; KEY_CELLS], number: usize) -> u8
+    requires { ⌜ number < key-cells ⌝ }
+    ensures { λ r. ⌜ r ≡ getD (now (keys .entry)) number 0 ⌝ }
+{
+    keys[number]
+}
+
+// Gives a number another key. It is called where the number stands in no chain, or in one that doesn't go by keys.
+pub fn set_key(keys: &mut [u8; KEY_CELLS], number: usize, key: u8)
+    requires { ⌜ number < key-cells ⌝ }
+    ensures { λ _. ⌜ now (keys .exit) ≡ set (now (keys .entry)) number key ⌝ }
+{
+    keys[number] = key;
 }
 
 // Puts a number that stands in no chain into a chain, behind those at its head whose key is at most the limit. Returns how many

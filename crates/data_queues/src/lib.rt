@@ -1,147 +1,182 @@
-// Calls 2 to 11: data queues (document 01, "Sending and receiving"). Each is called where no row of the error table refuses it, and does what its
-// definition says (model: specs/DataQueues.antt).
-ghost use Rattle.model.specs.DataQueues.{cre-dtq, del-dtq, snd-dtq, psnd-dtq, tsnd-dtq, fsnd-dtq, rcv-dtq, prcv-dtq, trcv-dtq, ref-dtq};
-ghost use Rattle.record.specs.Step.{Accepted, Performs};
-use model::Call;
+// What the calls on data queues do where no row of the error table refuses them (document 01, "Sending and receiving"). Each function does what the definition
+// of its name says (model: specs/DataQueues.antt).
+ghost use mathlib.Core.Bool.{not};
+ghost use lib.Dec.{T};
+ghost use Rattle.lists.specs.Lists.{empty};
+ghost use Rattle.model.specs.Rows.{has-room};
+ghost use Rattle.model.specs.DataQueues.{create, delete, deliver, store, replace-oldest, take-oldest, take-oldest-and-refill, take-from-sender};
+ghost use Rattle.record.specs.Step.{Does};
+ghost use Rattle.data_queues.specs.Premises.{queue-in, AtQueue, Creatable};
 use model::Code;
-use model::End;
+use parts::DLT;
+use parts::OK;
 use parts::Queue;
 use parts::RECEIVERS;
 use parts::TASK_CHAINS;
 use parts::TASKS;
-use queue_bodies::IfEmpty;
-use queue_bodies::IfFull;
 use record::State;
 use record::Step;
 use ring::Ring;
 
-// A method must stand in the crate of its type, so the calls are methods of a type that holds the state.
-pub struct DataQueues {
-    pub state: State,
+// ── Creating and deleting ──
+
+pub fn create(mut state: State, queue: u8, attribute: u8, capacity: u8) -> Step
+    requires { ⌜ Creatable state queue capacity ⌝ }
+    ensures { λ r. ⌜ Does (create queue attribute capacity) state r ⌝ }
+{
+    let q = queue as usize;
+    let ring = Ring::new(capacity);
+    let created = Queue {
+        ring,
+        defined: 1,
+        attribute,
+        spare: 0,
+    };
+    state.queues[q] = created;
+    let answer = record::finished(Code::Ok, 0, 0, 0);
+    Step { state, answer }
 }
 
-impl DataQueues {
-    pub fn cre_dtq(self, call: Call) -> Step
-        requires { ⌜ Accepted 2 (self .state) call ⌝ }
-        ensures { λ r. ⌜ Performs cre-dtq (self .state) call r ⌝ }
-    {
-        let mut state = self.state;
-        let q = call.object as usize;
-        let ring = Ring::new(call.value as u8);
-        let changed = Queue {
-            defined: true,
-            attribute: call.attribute as u8,
-            ring,
-        };
-        state.queues[q] = cells::write_queue(changed);
-        let answer = record::finished(Code::Ok, 0, 0, 0);
-        Step { state, answer }
+// All waits end with E_DLT, the senders' first; the stored words are gone.
+pub fn delete(mut state: State, queue: u8) -> Step
+    requires { ⌜ AtQueue state queue ⌝ }
+    ensures { λ r. ⌜ Does (delete queue (queue-in state queue)) state r ⌝ }
+{
+    let q = queue as usize;
+    while chain::first(&state.waiting.link, TASKS, TASK_CHAINS, q) != 0 {
+        let sender = chain::pop(&mut state.waiting.link, TASKS, TASK_CHAINS, q) as usize;
+        let ended = parts::ended(state.tasks[sender], DLT, 0);
+        state.tasks[sender] = ended;
     }
+    let receivers = RECEIVERS + q;
+    while chain::first(&state.waiting.link, TASKS, TASK_CHAINS, receivers) != 0 {
+        let receiver = chain::pop(&mut state.waiting.link, TASKS, TASK_CHAINS, receivers) as usize;
+        let ended = parts::ended(state.tasks[receiver], DLT, 0);
+        state.tasks[receiver] = ended;
+    }
+    let ring = Ring::new(0);
+    let undefined = Queue {
+        ring,
+        defined: 0,
+        attribute: 0,
+        spare: 0,
+    };
+    state.queues[q] = undefined;
+    let answer = record::finished(Code::Ok, 0, 0, 0);
+    Step { state, answer }
+}
 
-    // All waits end with E_DLT, the senders' first; the stored words are gone.
-    pub fn del_dtq(self, call: Call) -> Step
-        requires { ⌜ Accepted 3 (self .state) call ⌝ }
-        ensures { λ r. ⌜ Performs del-dtq (self .state) call r ⌝ }
-    {
-        let state = self.state;
-        let q = call.object as usize;
-        let unsent = waits::end_waits(state, q, Code::Dlt);
-        let mut alone = waits::end_waits(unsent, RECEIVERS + q, Code::Dlt);
-        let ring = Ring::new(0);
-        let changed = Queue {
-            defined: false,
-            attribute: 0,
-            ring,
-        };
-        alone.queues[q] = cells::write_queue(changed);
-        let answer = record::finished(Code::Ok, 0, 0, 0);
-        Step {
-            state: alone,
-            answer,
-        }
-    }
+// ── Sending ──
 
-    pub fn snd_dtq(self, call: Call) -> Step
-        requires { ⌜ Accepted 4 (self .state) call ⌝ }
-        ensures { λ r. ⌜ Performs snd-dtq (self .state) call r ⌝ }
-    {
-        let otherwise = IfFull::Wait {
-            me: call.caller,
-            end: End::Never,
-        };
-        queue_bodies::send(self.state, call.object, call.value, otherwise)
-    }
+// The head receiver gets the word, which isn't stored.
+pub fn deliver(mut state: State, queue: u8, word: u32) -> Step
+    requires { ⌜ AtQueue state queue × T (not (empty (queue-in state queue .receivers))) ⌝ }
+    ensures { λ r. ⌜ Does (deliver queue (queue-in state queue) word) state r ⌝ }
+{
+    let receivers = RECEIVERS + queue as usize;
+    let t = chain::pop(&mut state.waiting.link, TASKS, TASK_CHAINS, receivers) as usize;
+    state.tasks[t] = parts::ended(state.tasks[t], OK, word);
+    let answer = record::finished(Code::Ok, 0, 0, 0);
+    Step { state, answer }
+}
 
-    pub fn psnd_dtq(self, call: Call) -> Step
-        requires { ⌜ Accepted 5 (self .state) call ⌝ }
-        ensures { λ r. ⌜ Performs psnd-dtq (self .state) call r ⌝ }
-    {
-        queue_bodies::send(self.state, call.object, call.value, IfFull::Refuse)
-    }
+// The word goes to the tail of those stored.
+pub fn store(mut state: State, queue: u8, word: u32) -> Step
+    requires { ⌜ AtQueue state queue × T (has-room (queue-in state queue)) ⌝ }
+    ensures { λ r. ⌜ Does (store queue (queue-in state queue) word) state r ⌝ }
+{
+    let q = queue as usize;
+    let old = state.queues[q];
+    let ring = old.ring.push(word);
+    let stored = Queue {
+        ring,
+        defined: old.defined,
+        attribute: old.attribute,
+        spare: old.spare,
+    };
+    state.queues[q] = stored;
+    let answer = record::finished(Code::Ok, 0, 0, 0);
+    Step { state, answer }
+}
 
-    pub fn tsnd_dtq(self, call: Call) -> Step
-        requires { ⌜ Accepted 6 (self .state) call ⌝ }
-        ensures { λ r. ⌜ Performs tsnd-dtq (self .state) call r ⌝ }
-    {
-        let state = self.state;
-        let end = waits::end_of(state.counter, call.tmout);
-        let otherwise = IfFull::Wait {
-            me: call.caller,
-            end,
-        };
-        queue_bodies::send(state, call.object, call.value, otherwise)
-    }
+// fsnd at a full queue: the oldest word is lost, the new one goes to the tail.
+pub fn replace_oldest(mut state: State, queue: u8, word: u32) -> Step
+    requires { ⌜ AtQueue state queue × T (not (empty (queue-in state queue .words))) ⌝ }
+    ensures { λ r. ⌜ Does (replace-oldest queue (queue-in state queue) word) state r ⌝ }
+{
+    let q = queue as usize;
+    let old = state.queues[q];
+    let ring = old.ring.drop_oldest_and_push(word);
+    let replaced = Queue {
+        ring,
+        defined: old.defined,
+        attribute: old.attribute,
+        spare: old.spare,
+    };
+    state.queues[q] = replaced;
+    let answer = record::finished(Code::Ok, 0, 0, 0);
+    Step { state, answer }
+}
 
-    pub fn fsnd_dtq(self, call: Call) -> Step
-        requires { ⌜ Accepted 7 (self .state) call ⌝ }
-        ensures { λ r. ⌜ Performs fsnd-dtq (self .state) call r ⌝ }
-    {
-        queue_bodies::send(self.state, call.object, call.value, IfFull::Replace)
-    }
+// ── Receiving ──
 
-    pub fn rcv_dtq(self, call: Call) -> Step
-        requires { ⌜ Accepted 8 (self .state) call ⌝ }
-        ensures { λ r. ⌜ Performs rcv-dtq (self .state) call r ⌝ }
-    {
-        let otherwise = IfEmpty::Wait {
-            me: call.caller,
-            end: End::Never,
-        };
-        queue_bodies::receive(self.state, call.object, otherwise)
-    }
+// Words are stored and no sender waits.
+pub fn take_oldest(mut state: State, queue: u8) -> Step
+    requires { ⌜ AtQueue state queue × T (not (empty (queue-in state queue .words))) ⌝ }
+    ensures { λ r. ⌜ Does (take-oldest queue (queue-in state queue)) state r ⌝ }
+{
+    let q = queue as usize;
+    let old = state.queues[q];
+    let taken = old.ring.pop();
+    let ring = taken.ring;
+    let changed = Queue {
+        ring,
+        defined: old.defined,
+        attribute: old.attribute,
+        spare: old.spare,
+    };
+    state.queues[q] = changed;
+    let answer = record::finished(Code::Ok, taken.word, 0, 0);
+    Step { state, answer }
+}
 
-    pub fn prcv_dtq(self, call: Call) -> Step
-        requires { ⌜ Accepted 9 (self .state) call ⌝ }
-        ensures { λ r. ⌜ Performs prcv-dtq (self .state) call r ⌝ }
-    {
-        queue_bodies::receive(self.state, call.object, IfEmpty::Refuse)
-    }
+// Words are stored and a sender waits: its word goes to the tail, and its wait ends.
+pub fn take_oldest_and_refill(mut state: State, queue: u8) -> Step
+    requires { ⌜ AtQueue state queue × T (not (empty (queue-in state queue .words))) × T (not (empty (queue-in state queue .senders))) ⌝ }
+    ensures { λ r. ⌜ Does (take-oldest-and-refill queue (queue-in state queue)) state r ⌝ }
+{
+    let q = queue as usize;
+    let t = chain::pop(&mut state.waiting.link, TASKS, TASK_CHAINS, q) as usize;
+    let sender = state.tasks[t];
+    let wait = sender.wait;
+    let word = parts::held_word(wait);
+    let released = parts::ended(sender, OK, 0);
+    state.tasks[t] = released;
+    let old = state.queues[q];
+    let oldest = old.ring.pop();
+    let ring = oldest.ring.push(word);
+    let changed = Queue {
+        ring,
+        defined: old.defined,
+        attribute: old.attribute,
+        spare: old.spare,
+    };
+    state.queues[q] = changed;
+    let answer = record::finished(Code::Ok, oldest.word, 0, 0);
+    Step { state, answer }
+}
 
-    pub fn trcv_dtq(self, call: Call) -> Step
-        requires { ⌜ Accepted 10 (self .state) call ⌝ }
-        ensures { λ r. ⌜ Performs trcv-dtq (self .state) call r ⌝ }
-    {
-        let state = self.state;
-        let end = waits::end_of(state.counter, call.tmout);
-        let otherwise = IfEmpty::Wait {
-            me: call.caller,
-            end,
-        };
-        queue_bodies::receive(state, call.object, otherwise)
-    }
-
-    // The head sender, the head receiver and how many words are stored.
-    pub fn ref_dtq(self, call: Call) -> Step
-        requires { ⌜ Accepted 11 (self .state) call ⌝ }
-        ensures { λ r. ⌜ Performs ref-dtq (self .state) call r ⌝ }
-    {
-        let state = self.state;
-        let q = call.object as usize;
-        let sender = chain::first(&state.waiting.link, TASKS, TASK_CHAINS, q);
-        let receiver = chain::first(&state.waiting.link, TASKS, TASK_CHAINS, RECEIVERS + q);
-        let queue = cells::read_queue(state.queues[q]);
-        let count = queue.ring.length();
-        let answer = record::finished(Code::Ok, sender as u32, receiver as u32, count as u32);
-        Step { state, answer }
-    }
+// No word is stored and a sender waits, so the capacity is 0: its word is handed over, and its wait ends.
+pub fn take_from_sender(mut state: State, queue: u8) -> Step
+    requires { ⌜ AtQueue state queue × T (not (empty (queue-in state queue .senders))) ⌝ }
+    ensures { λ r. ⌜ Does (take-from-sender queue (queue-in state queue)) state r ⌝ }
+{
+    let q = queue as usize;
+    let t = chain::pop(&mut state.waiting.link, TASKS, TASK_CHAINS, q) as usize;
+    let holder = state.tasks[t];
+    let wait = holder.wait;
+    let word = parts::held_word(wait);
+    state.tasks[t] = parts::ended(holder, OK, 0);
+    let answer = record::finished(Code::Ok, word, 0, 0);
+    Step { state, answer }
 }

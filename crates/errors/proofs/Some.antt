@@ -1,17 +1,12 @@
--- Whatever the code is handed, some view shows it: one is made of it, with a wait, a list or a number wherever something has to stand.
+-- Whatever the code is handed, some view shows it: one is made of it, with a list or a number wherever something has to stand.
 use mathlib.Core.Path.{_≡_, refl, sym}
 use mathlib.Core.Bool.{Bool, true, false, cond}
-use mathlib.Core.List.{List, [], _∷_}
-use Prim.Native.Nat.{ℕ}
-use lib.Dec.{eqb}
+use mathlib.Core.List.{List, [], _∷_, headD}
+use Prim.Native.Nat.{ℕ, zero, suc}
+use lib.Dec.{eqb, eqb·suc-zero}
 use lib.ListN.{replicate, length-replicate}
 use Rattle.lists.specs.Lists.{empty}
 use Rattle.model.specs.Rows.{TaskRow, QueueRow, MailboxRow}
-use Rattle.model.specs.Waits.{able}
-use Rattle.model.specs.declared.Code.the-variants.{Ok}
-use Rattle.model.specs.declared.End.the-variants.{Never}
-use Rattle.model.specs.declared.Wait.{Wait}
-use Rattle.model.specs.declared.Wait.the-variants.{NoWait, Receiving}
 use Rattle.errors.specs.declared.TaskSeen.{TaskSeen}
 use Rattle.errors.specs.declared.QueueSeen.{QueueSeen}
 use Rattle.errors.specs.declared.MailboxSeen.{MailboxSeen}
@@ -20,53 +15,63 @@ use Rattle.errors.specs.Some.{EverySeenShows}
 
 -- ── A task ──
 
-abbrev wait-if : Bool → Wait
-wait-if is-able = cond is-able NoWait (Receiving 1 Never)
-
-able-if : (is-able : Bool) → is-able ≡ able (wait-if is-able)
-able-if true = refl
-able-if false = refl
-
 abbrev task-from : TaskSeen → TaskRow
-task-from y = record { defined = y .defined; priority = 1; wait = wait-if (y .able); code = Ok; word = 0 }
+task-from y = record { defined = y .defined; priority = 1; wait = y .wait; code = y .code; word = y .word }
 
 shows-task : (y : TaskSeen) → ShowsTask (task-from y) y
-shows-task y = record { defined = refl; able = able-if (y .able) }
+shows-task y = record { defined = refl; wait = refl; code = refl; word = refl }
 
 -- ── A data queue and a mailbox ──
 
-abbrev list-if : Bool → List ℕ
-list-if nobody = cond nobody [] (1 ∷ [])
+-- A list with this head, none where it is 0.
+abbrev headed : ℕ → List ℕ
+headed n = cond (eqb n 0) [] (n ∷ [])
 
-empty-if : (nobody : Bool) → nobody ≡ empty (list-if nobody)
+head-is : (n : ℕ) → n ≡ headD (headed n) 0
+unfolding headD
+head-is zero = refl
+head-is (suc n) = rw (eqb·suc-zero n) refl
+
+none-if-zero : (n : ℕ) → eqb n 0 ≡ empty (headed n)
 unfolding empty
-empty-if true = refl
-empty-if false = refl
+none-if-zero zero = refl
+none-if-zero (suc n) = rw (eqb·suc-zero n) refl
 
 abbrev queue-from : QueueSeen → QueueRow
 queue-from y = record {
   defined = y .defined;
-  attribute = 0;
+  attribute = y .attribute;
   capacity = y .capacity;
   words = replicate (y .count) 0;
-  senders = list-if (y .«no_sender»);
-  receivers = list-if (y .«no_receiver»);
+  senders = headed (y .sender);
+  receivers = headed (y .receiver);
 }
 
 shows-queue : (y : QueueSeen) → ShowsQueue (queue-from y) y
 shows-queue y = record {
   defined = refl;
+  attribute = refl;
   capacity = refl;
   count = sym (length-replicate (y .count) 0);
-  no-sender = empty-if (y .«no_sender»);
-  no-receiver = empty-if (y .«no_receiver»);
+  sender = head-is (y .sender);
+  no-sender = none-if-zero (y .sender);
+  receiver = head-is (y .receiver);
+  no-receiver = none-if-zero (y .receiver);
 }
 
 abbrev mailbox-from : MailboxSeen → MailboxRow
-mailbox-from y = record { defined = y .defined; attribute = y .attribute; highest = y .highest; waiters = []; messages = list-if (y .«no_message») }
+mailbox-from y = record { defined = y .defined; attribute = y .attribute; highest = y .highest; waiters = headed (y .waiter); messages = headed (y .message) }
 
 shows-mailbox : (y : MailboxSeen) → ShowsMailbox (mailbox-from y) y
-shows-mailbox y = record { defined = refl; attribute = refl; highest = refl; no-message = empty-if (y .«no_message») }
+shows-mailbox y = record {
+  defined = refl;
+  attribute = refl;
+  highest = refl;
+  waiter = head-is (y .waiter);
+  no-waiter = none-if-zero (y .waiter);
+  message = head-is (y .message);
+  no-message = none-if-zero (y .message);
+}
 
 -- ── A message ──
 

@@ -1,4 +1,4 @@
-// Document 01, "Error numbers and their order", as code: which row of the table refuses a call, from what the table asks of the rows that the
+// Document 01, "Error numbers and their order", as code: which row of the table refuses a call, from what is seen of the rows that the
 // call has in view. A test has the name that it has in crates/model/specs; the three rows that ask several tests have a function each.
 ghost use mathlib.Core.Path.{_≡_};
 ghost use mathlib.Core.Bool.{true, _&&_, _||_};
@@ -6,43 +6,93 @@ ghost use Rattle.model.specs.Sizes as sizes;
 ghost use Rattle.model.specs.Rows as rows;
 ghost use Rattle.model.specs.Calls as calls;
 ghost use Rattle.model.specs.Calls.{View};
+ghost use Rattle.model.specs.Waits as waits;
 ghost use Rattle.model.specs.Errors as table;
 ghost use Rattle.errors.specs.Seen.{Shows, is-ok};
+use model::CALL_LIMIT;
+use model::CAPACITY_LIMIT;
 use model::Call;
 use model::Code;
+use model::MAILBOX_LIMIT;
+use model::MESSAGE_LIMIT;
+use model::PRIORITY_LIMIT;
+use model::QUEUE_LIMIT;
+use model::TASK_LIMIT;
+use model::TMOUT_LIMIT;
+use model::Wait;
 
-// ── What the table asks of the rows in view ──
+// The limits as words, like the fields that they are compared with.
+const CALLS: u32 = CALL_LIMIT as u32;
+
+const TASKS: u32 = TASK_LIMIT as u32;
+
+const QUEUES: u32 = QUEUE_LIMIT as u32;
+
+const MAILBOXES: u32 = MAILBOX_LIMIT as u32;
+
+const MESSAGES: u32 = MESSAGE_LIMIT as u32;
+
+const CAPACITY: u32 = CAPACITY_LIMIT as u32;
+
+const PRIORITIES: u32 = PRIORITY_LIMIT as u32;
+
+// ── What is seen of the rows in view ──
 
 pub struct TaskSeen {
     pub defined: bool,
-    // In no wait.
-    pub able: bool,
     pub suspended: bool,
+    pub wait: Wait,
+    // The stored pair.
+    pub code: Code,
+    pub word: u32,
 }
 
+// The heads of the two wait queues; 0 for none.
 pub struct QueueSeen {
     pub defined: bool,
+    pub attribute: u8,
     pub capacity: u8,
     // How many words are stored.
     pub count: u8,
-    pub no_sender: bool,
-    pub no_receiver: bool,
+    pub sender: u8,
+    pub receiver: u8,
 }
 
+// The head waiter and the head message; 0 for none.
 pub struct MailboxSeen {
     pub defined: bool,
     pub attribute: u8,
     pub highest: u8,
-    pub no_message: bool,
+    pub waiter: u8,
+    pub message: u8,
 }
 
 pub struct Seen {
+    // Whether the record is sound. All else is shown of a sound record alone.
+    pub sound: bool,
+    pub counter: u32,
     pub caller: TaskSeen,
     pub task: TaskSeen,
     pub queue: QueueSeen,
     pub mailbox: MailboxSeen,
     // The message is queued in no mailbox.
     pub message_free: bool,
+}
+
+// In no wait.
+pub fn able(wait: Wait) -> bool
+    ensures { λ r. ⌜ r ≡ waits.able wait ⌝ }
+{
+    match wait {
+        Wait::NoWait => true,
+        Wait::Sending {
+            queue: _,
+            end: _,
+            word: _,
+        } => false,
+        Wait::Receiving { queue: _, end: _ } => false,
+        Wait::AtMailbox { mailbox: _, end: _ } => false,
+    }
 }
 
 // ── Which calls ──
@@ -55,7 +105,7 @@ fn creates(call: Call) -> bool
     (n == 1) | (n == 2) | (n == 12)
 }
 
-fn has_tmout(call: Call) -> bool
+pub fn has_tmout(call: Call) -> bool
     ensures { λ r. ⌜ r ≡ calls.has-tmout call ⌝ }
 {
     let n = call.number;
@@ -67,7 +117,7 @@ fn has_tmout(call: Call) -> bool
 fn unknown(call: Call) -> bool
     ensures { λ r. ⌜ r ≡ table.unknown call ⌝ }
 {
-    23 < call.number
+    CALL_LIMIT < call.number
 }
 
 // ── Step 1 ──
@@ -76,7 +126,9 @@ fn caller_cannot_call(call: Call, seen: Seen) -> bool
     ensures { λ r. ⌜ ((v : View) → Shows v call seen → r ≡ table.caller-cannot-call (v .caller) call) ⌝ }
 {
     let n = call.caller;
-    (n != 0) & ((32 < n) | !seen.caller.defined | !seen.caller.able | seen.caller.suspended)
+    let caller = seen.caller;
+    let wait = caller.wait;
+    (n != 0) & ((TASK_LIMIT < n) | !caller.defined | !able(wait) | caller.suspended)
 }
 
 // ── Step 2 ──
@@ -84,7 +136,7 @@ fn caller_cannot_call(call: Call, seen: Seen) -> bool
 fn called_while_locked(call: Call) -> bool
     ensures { λ r. ⌜ r ≡ table.called-while-locked call ⌝ }
 {
-    call.locked & names::within(1, 23, call.number as u32)
+    call.locked & names::within(1, CALLS, call.number as u32)
 }
 
 // The calls that only a task can make.
@@ -129,9 +181,9 @@ fn number_outside(call: Call) -> bool
     ensures { λ r. ⌜ r ≡ table.number-outside call ⌝ }
 {
     let n = call.object as u32;
-    names::names_task(call) & !names::within(1, 32, n)
-        | names::names_queue(call) & !names::within(1, 16, n)
-        | names::names_mailbox(call) & !names::within(1, 16, n)
+    names::names_task(call) & !names::within(1, TASKS, n)
+        | names::names_queue(call) & !names::within(1, QUEUES, n)
+        | names::names_mailbox(call) & !names::within(1, MAILBOXES, n)
 }
 
 // ── Step 4 ──
@@ -140,7 +192,7 @@ fn tmout_outside(call: Call) -> bool
     ensures { λ r. ⌜ r ≡ table.tmout-outside call ⌝ }
 {
     let tmout = call.tmout;
-    has_tmout(call) & ((tmout < -1) | (2147483646 < tmout))
+    has_tmout(call) & ((tmout < -1) | (TMOUT_LIMIT < tmout))
 }
 
 fn attribute_outside(call: Call) -> bool
@@ -154,22 +206,22 @@ fn attribute_outside(call: Call) -> bool
 fn capacity_outside(call: Call) -> bool
     ensures { λ r. ⌜ r ≡ table.capacity-outside call ⌝ }
 {
-    (call.number == 2) & (16 < call.value)
+    (call.number == 2) & (CAPACITY < call.value)
 }
 
 fn task_priority_outside(call: Call) -> bool
     ensures { λ r. ⌜ r ≡ table.task-priority-outside call ⌝ }
 {
-    (call.number == 1) & !names::within(1, 16, call.value)
+    (call.number == 1) & !names::within(1, PRIORITIES, call.value)
 }
 
 fn message_outside(call: Call) -> bool
     ensures { λ r. ⌜ r ≡ table.message-outside call ⌝ }
 {
-    names::names_message(call) & !names::within(1, 64, call.value)
+    names::names_message(call) & !names::within(1, MESSAGES, call.value)
 }
 
-fn messages_by_priority(attribute: u32) -> bool
+pub fn messages_by_priority(attribute: u32) -> bool
     ensures { λ r. ⌜ r ≡ rows.messages-by-priority attribute ⌝ }
 {
     (attribute == 2) | (attribute == 3)
@@ -178,7 +230,9 @@ fn messages_by_priority(attribute: u32) -> bool
 fn highest_outside(call: Call) -> bool
     ensures { λ r. ⌜ r ≡ table.highest-outside call ⌝ }
 {
-    (call.number == 12) & messages_by_priority(call.attribute) & !names::within(1, 16, call.value)
+    (call.number == 12)
+        & messages_by_priority(call.attribute)
+        & !names::within(1, PRIORITIES, call.value)
 }
 
 fn field_outside(call: Call) -> bool
@@ -224,11 +278,14 @@ fn wrong_state(call: Call, seen: Seen) -> bool
     ensures { λ r. ⌜ ((v : View) → Shows v call seen → r ≡ table.wrong-state v call) ⌝ }
 {
     let n = call.number;
+    let task = seen.task;
+    let wait = task.wait;
+    let is_able = able(wait);
     creates(call) & exists(call, seen)
         | names::names_message(call) & !seen.message_free
-        | (n == 19) & seen.task.able
-        | (n == 21) & !seen.task.suspended
-        | (n == 23) & !seen.task.able
+        | (n == 19) & is_able
+        | (n == 21) & !task.suspended
+        | (n == 23) & !is_able
 }
 
 fn suspended_already(call: Call, seen: Seen) -> bool
@@ -241,7 +298,7 @@ fn suspended_already(call: Call, seen: Seen) -> bool
 fn nothing_to_drop(call: Call, seen: Seen) -> bool
     ensures { λ r. ⌜ ((v : View) → Shows v call seen → r ≡ table.nothing-to-drop v call) ⌝ }
 {
-    (call.number == 7) & (seen.queue.capacity == 0) & seen.queue.no_receiver
+    (call.number == 7) & (seen.queue.capacity == 0) & (seen.queue.receiver == 0)
 }
 
 // ── Step 7 ──
@@ -261,9 +318,9 @@ fn would_wait(call: Call, seen: Seen) -> bool
     let n = call.number as u32;
     let count = seen.queue.count;
     let room = count < seen.queue.capacity;
-    names::within(4, 6, n) & seen.queue.no_receiver & !room
-        | names::within(8, 10, n) & (count == 0) & seen.queue.no_sender
-        | names::within(15, 17, n) & seen.mailbox.no_message
+    names::within(4, 6, n) & (seen.queue.receiver == 0) & !room
+        | names::within(8, 10, n) & (count == 0) & (seen.queue.sender == 0)
+        | names::within(15, 17, n) & (seen.mailbox.message == 0)
 }
 
 fn poll_would_wait(call: Call, seen: Seen) -> bool
@@ -299,7 +356,7 @@ fn refusal_from_step_5(call: Call, seen: Seen) -> Code
     Code::Ok
 }
 
-// The code of the first row that applies, E_OK where none does. Step 1's test of the state is made before (crate kernel).
+// The code of the first row that applies, E_OK where none does. Step 1's test of the state is made before (crate see).
 pub fn refusal(call: Call, seen: Seen) -> Code
     ensures { λ r. ⌜ ((v : View) → Shows v call seen → r ≡ table.refusal v call) ⌝ }
 {

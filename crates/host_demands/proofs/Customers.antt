@@ -1,5 +1,6 @@
 -- What follows for customers where the record stays where it is: the claims hold however calls are made (crate demands).
 use Rattle.record.proofs.Equal.{state-lawful}
+use Rattle.host_record.proofs.Record.{host-lawful}
 use Rattle.demands.proofs.NoLostWakeUp.{no-lost-wake-up}
 use Rattle.demands.proofs.TimeOuts.{time-outs-kept}
 use Rattle.demands.proofs.StoredPair.{fetch-gives-pair}
@@ -21,13 +22,13 @@ pub no-foreign-effect-through-entry : NoForeignEffectThroughEntry
 no-foreign-effect-through-entry = no-foreign-effect state-lawful entry-faithful
 
 pub no-lost-wake-up-for-hosts : NoLostWakeUpForHosts
-no-lost-wake-up-for-hosts = no-lost-wake-up state-lawful hosts-faithful
+no-lost-wake-up-for-hosts = no-lost-wake-up host-lawful hosts-faithful
 
 pub time-outs-kept-for-hosts : TimeOutsKeptForHosts
-time-outs-kept-for-hosts = time-outs-kept state-lawful hosts-faithful
+time-outs-kept-for-hosts = time-outs-kept host-lawful hosts-faithful
 
 pub fetch-gives-pair-for-hosts : FetchGivesPairForHosts
-fetch-gives-pair-for-hosts = fetch-gives-pair state-lawful hosts-faithful
+fetch-gives-pair-for-hosts = fetch-gives-pair host-lawful hosts-faithful
 
 pub no-foreign-effect-for-hosts : NoForeignEffectForHosts
-no-foreign-effect-for-hosts = no-foreign-effect state-lawful hosts-faithful
+no-foreign-effect-for-hosts = no-foreign-effect host-lawful hosts-faithful

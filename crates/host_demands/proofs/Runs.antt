@@ -6,6 +6,7 @@ use Rattle.model.specs.declared.Answer.{Answer}
 use Rattle.model.specs.declared.Outcome.{Outcome}
 use Rattle.model.specs.declared.Outcome.the-variants.{Finished, Waits}
 use Rattle.record.specs.Step.{state-engine}
+use Rattle.host_record.specs.Record.{host-engine}
 use Rattle.demands.proofs.Runs.{Faithful, by-value-faithful, lists-run, models-run-as}
 use Rattle.entry.specs.Entered.{Entered}
 use Rattle.host_calls.specs.Calls.{call-of, answer-of}
@@ -23,7 +24,7 @@ host-values-are x = go (x .outcome) (x .a) (x .b) (x .c)
 pub entry-faithful : Faithful state-engine through-entry
 entry-faithful = by-value-faithful state-engine
 
-pub hosts-faithful : Faithful state-engine for-hosts
+pub hosts-faithful : Faithful host-engine for-hosts
 hosts-faithful = record { answer-of = answer-of; values-are = host-values-are; steps = λ h. h }
 
 pub lists-run-through-entry : ListsRunThroughEntry

@@ -1,5 +1,6 @@
 -- What follows for customers, through the thin entry and for hosts: the claims of crate demands where the record stays where it is.
 use Rattle.record.specs.Step.{state-engine}
+use Rattle.host_record.specs.Record.{host-engine}
 use Rattle.demands.specs.NoLostWakeUp.{NoLostWakeUp}
 use Rattle.demands.specs.TimeOuts.{TimeOutsKept}
 use Rattle.demands.specs.StoredPair.{FetchGivesPair}
@@ -21,13 +22,13 @@ NoForeignEffectThroughEntry = NoForeignEffect state-engine through-entry
 -- ── In the host's numbers ──
 
 abbrev pub NoLostWakeUpForHosts : Type 0
-NoLostWakeUpForHosts = NoLostWakeUp state-engine for-hosts
+NoLostWakeUpForHosts = NoLostWakeUp host-engine for-hosts
 
 abbrev pub TimeOutsKeptForHosts : Type 0
-TimeOutsKeptForHosts = TimeOutsKept state-engine for-hosts
+TimeOutsKeptForHosts = TimeOutsKept host-engine for-hosts
 
 abbrev pub FetchGivesPairForHosts : Type 0
-FetchGivesPairForHosts = FetchGivesPair state-engine for-hosts
+FetchGivesPairForHosts = FetchGivesPair host-engine for-hosts
 
 abbrev pub NoForeignEffectForHosts : Type 0
-NoForeignEffectForHosts = NoForeignEffect state-engine for-hosts
+NoForeignEffectForHosts = NoForeignEffect host-engine for-hosts

@@ -13,6 +13,7 @@ use Rattle.entry.specs.Entered.{Entered}
 use Rattle.host_calls.specs.Calls.{call-of, answer-of}
 use Rattle.host_calls.specs.declared.HostAnswer.{HostAnswer}
 use Rattle.host_calls.specs.declared.HostCall.{HostCall}
+use Rattle.host_record.specs.declared.HostRecord.{HostRecord}
 use Rattle.linguastel.specs.Called.{Called}
 
 -- Through the thin entry.
@@ -28,7 +29,7 @@ abbrev pub HostValues : Type 0
 HostValues = (x : Answer) → host-values (answer-of x) ≡ values x
 
 -- Through the function that hosts call, a call of number 0 being the tick.
-abbrev pub for-hosts : Interface State HostCall HostAnswer
+abbrev pub for-hosts : Interface HostRecord HostCall HostAnswer
 for-hosts = record { call-of = call-of; values-of = host-values; Steps = Called }
 
 -- The same of steps through the entry and of hosts' calls; and there are runs in the host's numbers.

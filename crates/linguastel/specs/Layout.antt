@@ -1,12 +1,12 @@
--- How many bytes the record takes in a host's memory, part by part, as C lays its structs out: each number at a multiple of its own size, each struct filled up
--- to a multiple of its largest number's.
+-- How many bytes the record takes in a host's memory, part by part, as C lays its structs out: each number at a multiple of its own size. No byte is left over:
+-- where a struct would be filled up, it has a field of its own for that.
 use Prim.Native.Nat.{ℕ, _+_, _*_}
 
--- Three words and five bytes, three bytes of filling.
+-- Three words, four bytes, and the flags, a word.
 abbrev pub task-size : ℕ
-task-size = 3 * 4 + 5 + 3
+task-size = 3 * 4 + 4 + 4
 
--- Sixteen words and three bytes, one of filling; then two bytes, and two of filling.
+-- The ring: sixteen words, three bytes and a spare one; then two bytes and two spare ones.
 abbrev pub queue-size : ℕ
 queue-size = 16 * 4 + 3 + 1 + 2 + 2
 
@@ -17,7 +17,7 @@ mailbox-size = 3
 abbrev pub chains-size : ℕ
 chains-size = 81 + 65
 
--- The counter; 33 tasks, 17 data queues, the two tables of chains, 17 mailboxes, one byte of filling.
+-- The counter; 33 tasks, 17 data queues, the two tables of chains, 17 mailboxes, a spare byte.
 abbrev pub record-size : ℕ
 record-size = 4 + 33 * task-size + 17 * queue-size + 2 * chains-size + 17 * mailbox-size + 1
 

@@ -1,16 +1,13 @@
 // The functions that hosts call, in C or Rust: thin entries over the record that the host lends. `rt staticlib linguastel` makes the library.
 // No test here can find a pointer that is null or not aligned: the C header tests it before it calls, and safe Rust has none.
 ghost use mathlib.Core.Path.{_≡_};
-ghost use Rattle.lists.specs.Tests.{Whether};
 ghost use Rattle.model.specs.Rows.{empty-state};
-ghost use Rattle.record.specs.Meaning.{abs};
-ghost use Rattle.record.specs.Sound.{Sound};
-ghost use Rattle.host_step.specs.Step.{tick-call};
+ghost use Rattle.host_record.specs.Record.{HostSound, meaning};
 ghost use Rattle.linguastel.specs.Called.{Called};
 ghost use Rattle.linguastel.specs.Layout.{record-size, record-align};
 use host_calls::HostAnswer;
 use host_calls::HostCall;
-use record::State;
+use host_record::HostRecord;
 
 // The bytes of the record, and what its address has to be a multiple of.
 #[no_mangle]
@@ -29,36 +26,24 @@ pub extern "C" fn linguastel_record_align() -> usize
 
 // Makes the record empty, whatever it held: nothing is defined, the counter is 0.
 #[no_mangle]
-pub extern "C" fn linguastel_empty(lent: &mut State)
-    ensures { λ _. ⌜ Sound (now (lent .exit)) × (abs (now (lent .exit)) ≡ empty-state 0) ⌝ }
+pub extern "C" fn linguastel_empty(lent: &mut HostRecord)
+    ensures { λ _. ⌜ HostSound (now (lent .exit)) × (meaning (now (lent .exit)) ≡ empty-state 0) ⌝ }
 {
-    *lent = State::empty();
+    *lent = host_record::empty();
 }
 
-// Whether the record is sound, whatever it holds.
+// One call, or with number 0 the tick, on whatever record is lent. A call that changes nothing, a refused one for instance, writes nothing. No tick and no
+// test of the record stands beside this: a second place from which their functions are called would make both dearer (docs/DECISIONS.md).
 #[no_mangle]
-pub extern "C" fn linguastel_sound(lent: &State) -> bool
-    ensures { λ r. ⌜ Whether (Sound (now (lent .entry))) r ⌝ }
-{
-    (*lent).sound()
-}
-
-// One call, or with number 0 the tick, on whatever record is lent.
-#[no_mangle]
-pub extern "C" fn linguastel_call(lent: &mut State, call: HostCall) -> HostAnswer
+pub extern "C" fn linguastel_call(lent: &mut HostRecord, call: HostCall) -> HostAnswer
     ensures { λ r. ⌜ Called (now (lent .entry)) call (now (lent .exit)) r ⌝ }
 {
-    let stepped = host_step::step(*lent, call);
-    *lent = stepped.state;
-    stepped.answer
-}
-
-// One tick.
-#[no_mangle]
-pub extern "C" fn linguastel_tick(lent: &mut State) -> HostAnswer
-    ensures { λ r. ⌜ Called (now (lent .entry)) tick-call (now (lent .exit)) r ⌝ }
-{
-    let stepped = host_step::tick(*lent);
-    *lent = stepped.state;
-    stepped.answer
+    let state = host_record::state_of(*lent);
+    let judged = host_record::judge(state, call);
+    if judged.changes {
+        let stepped = host_record::apply(state, judged);
+        *lent = host_record::stored(*lent, stepped, judged);
+        return host_record::answered(stepped);
+    }
+    host_record::said(judged)
 }

@@ -3,8 +3,9 @@ use mathlib.Core.Path.{_≡_, refl, ap, _∙_, fun-ext}
 use mathlib.Core.Bool.{Bool, cond}
 use mathlib.Core.List.{List, [], tail, List·Memᴰ as In, List·Memᴰ·not-nil}
 use mathlib.Core.Logic.{_≢_}
-use Prim.Native.Nat.{ℕ, _<_}
+use Prim.Native.Nat.{ℕ, _<_, _≤_}
 use native.Mathlib.Omega.{arith}
+use native.Mathlib.Decide.{ℕ-discrete}
 use lib.Dec.{T, eqb}
 use lib.ListN.{length, getD, set, length-set}
 use lib.Seq.{getD-set-same, getD-set-other}
@@ -26,10 +27,8 @@ use Rattle.model.proofs.RowMoves.{with-message-rows, freed}
 use Rattle.parts.specs.Chains.{message-chains, tasks-in, messages-in}
 use Rattle.parts.specs.Mailboxes.{mailbox-row}
 use Rattle.parts.specs.declared.Mailbox.{Mailbox}
-use Rattle.cells.specs.Objects.{read-mailbox}
-use Rattle.cells.specs.declared.MailboxCells.{MailboxCells}
 use Rattle.record.specs.declared.State.{State}
-use Rattle.record.specs.Meaning.{no-mailbox-cells, mailbox-at, mailbox-of, keeps-priorities, message-row, cells-of, abs}
+use Rattle.record.specs.Meaning.{zero-mailbox, mailbox-at, mailbox-of, keeps-priorities, message-row, cells-of, abs}
 use Rattle.record.specs.Sound.{Readable}
 use Rattle.record.specs.Step.{Becomes}
 use Rattle.record.proofs.Rows.{row-is}
@@ -40,7 +39,7 @@ use Rattle.record.proofs.Laws as laws
 -- ── The record's messages ──
 
 -- A message that stands where it stood, with the key that it had, has the row that it had. One that stands nowhere is free.
-module _ (mailboxes : List MailboxCells) (key : List ℕ) (link link' : List ℕ) (g : ℕ) where
+module _ (mailboxes : List Mailbox) (key : List ℕ) (link link' : List ℕ) (g : ℕ) where
   same-message : (key' : List ℕ) → mailbox-of link' g ≡ mailbox-of link g → getD key' g 0 ≡ getD key g 0 → message-row link' key' mailboxes g ≡ message-row link key mailboxes g
   same-message key' e f = rw (e, f) refl
 
@@ -70,7 +69,8 @@ module _ {s : State} (R : Readable s) (b : ℕ) (ok : T (valid (mailbox b))) whe
       sizes = record { tasks = R .sizes .tasks; queues = R .sizes .queues; mailboxes = R .sizes .mailboxes; task-keys = R .sizes .task-keys; message-keys = size };
       waiting = R .waiting;
       messages = d .sound;
-      rings = R .rings;
+      queues = R .queues;
+      mailboxes = R .mailboxes;
     }
 
     -- The mailbox's row, and the rows of the other mailboxes.
@@ -185,30 +185,34 @@ module _ {s : State} (R : Readable s) (b : ℕ) (ok : T (valid (mailbox b))) whe
 
   -- ── A mailbox where nobody waits and no message is queued ──
 
-  module _ (y : MailboxCells) (no-waiter : tasks-in (s .waiting .link) (waiters-of b) ≡ []) (no-message : messages-in (s .messages .link) b ≡ []) where
+  module _ (y : Mailbox) (no-waiter : tasks-in (s .waiting .link) (waiters-of b) ≡ []) (no-message : messages-in (s .messages .link) b ≡ []) where
     mailbox-fits : b < length (s .mailboxes)
     mailbox-fits = let r = from-within 1 mailbox-limit b ok in let n = R .sizes .mailboxes in omega arith
 
-    new-mailbox : mailbox-at (with-mailbox b y s) b ≡ read-mailbox y
-    new-mailbox = ap read-mailbox (getD-set-same (s .mailboxes) b y no-mailbox-cells mailbox-fits)
+    new-mailbox : mailbox-at (with-mailbox b y s) b ≡ y
+    new-mailbox = getD-set-same (s .mailboxes) b y zero-mailbox mailbox-fits
 
     other-mailboxes : (j : ℕ) → j ≢ b → mailbox-at (with-mailbox b y s) j ≡ mailbox-at s j
-    other-mailboxes j n = ap read-mailbox (getD-set-other (s .mailboxes) b j y no-mailbox-cells n)
+    other-mailboxes j n = getD-set-other (s .mailboxes) b j y zero-mailbox n
 
     -- No message stands in it, so none is read with another attribute.
     not-here : (g : ℕ) → mailbox-of (s .messages .link) g ≢ b
     unfolding mailbox-of messages-in
     not-here g e = List·Memᴰ·not-nil (rw no-message at (stands-there g b _ e (has-messages .low)))
 
-    pub mailbox-put : {x : Mailbox} → read-mailbox y ≡ x → Becomes s (update same-key (mailbox b) (mailbox-row x [] []) (abs s .rows)) (with-mailbox b y s)
-    mailbox-put e = record {
-      rows-are = changed-row s (with-mailbox b y s) (mailbox b) _ ok (rw (new-mailbox, e, no-waiter, no-message) refl) others;
+    pub mailbox-put : y .defined ≤ 1 → Becomes s (update same-key (mailbox b) (mailbox-row y [] []) (abs s .rows)) (with-mailbox b y s)
+    mailbox-put flag = record {
+      rows-are = changed-row s (with-mailbox b y s) (mailbox b) _ ok (rw (new-mailbox, no-waiter, no-message) refl) others;
       environment-is = same-environment _ _ refl;
       readable = record {
         sizes = record { tasks = R .sizes .tasks; queues = R .sizes .queues; mailboxes = length-set (s .mailboxes) b y ∙ R .sizes .mailboxes; task-keys = R .sizes .task-keys; message-keys = R .sizes .message-keys };
         waiting = R .waiting;
         messages = R .messages;
-        rings = R .rings;
+        queues = R .queues;
+        mailboxes = λ j v. elim (ℕ-discrete j b) [
+          | yes e ↦ rw (e, new-mailbox) flag
+          | no n ↦ rw (other-mailboxes j n) (R .mailboxes j v)
+        ];
       };
     }
       where

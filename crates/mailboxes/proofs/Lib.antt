@@ -1,3 +1,4 @@
 pub mod Laws
-pub mod Bodies
-pub mod Calls
+pub mod Effects
+pub mod Objects
+pub mod Joining

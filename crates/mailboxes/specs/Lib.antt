@@ -1,1 +1,1 @@
-pub mod Bodies
+pub mod Premises

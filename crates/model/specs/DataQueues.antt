@@ -12,6 +12,12 @@ use Rattle.model.specs.Calls.{Call, View, word-of, capacity-of}
 use Rattle.model.specs.Waits.{End, Never, Sending, Receiving, held-word, starting, ended, end-of}
 use Rattle.model.specs.WaitQueues.{priorities, place, release, end-waits}
 
+-- A new queue.
+abbrev pub create : ℕ → ℕ → ℕ → Effect
+create q attribute capacity = do
+  put (queue q) (record { defined = true; attribute = attribute; capacity = capacity; words = []; senders = []; receivers = [] })
+  done
+
 -- q is the queue that the call names and x its row; me and row are the caller and its row.
 module _ (q : ℕ) (x : QueueRow) where
   -- To the head receiver; nothing is stored.
@@ -87,6 +93,14 @@ module _ (q : ℕ) (x : QueueRow) where
       else if not (empty (x .senders)) then take-from-sender
       else otherwise
 
+  -- All waits end, the senders' first; then the queue is undefined.
+  abbrev pub delete : Effect
+  delete = do
+    end-waits (x .senders) E-DLT
+    end-waits (x .receivers) E-DLT
+    put (queue q) no-queue
+    done
+
 module _ (e : Environment) (v : View) (c : Call) where
   -- The calls with and without a tmout differ only in the end of the wait.
   abbrev send-until : End → Effect
@@ -97,17 +111,11 @@ module _ (e : Environment) (v : View) (c : Call) where
 
   -- 2
   abbrev pub cre-dtq : Effect
-  cre-dtq = do
-    put (queue (c .object)) (record { defined = true; attribute = c .attribute; capacity = capacity-of c; words = []; senders = []; receivers = [] })
-    done
+  cre-dtq = create (c .object) (c .attribute) (capacity-of c)
 
-  -- 3: all waits end, the senders' first; then the queue is undefined.
+  -- 3
   abbrev pub del-dtq : Effect
-  del-dtq = do
-    end-waits (v .the-queue .senders) E-DLT
-    end-waits (v .the-queue .receivers) E-DLT
-    put (queue (c .object)) no-queue
-    done
+  del-dtq = delete (c .object) (v .the-queue)
 
   -- 4
   abbrev pub snd-dtq : Effect

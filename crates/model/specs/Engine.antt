@@ -8,9 +8,9 @@ use lib.Dec.{T}
 use Rattle.rows.specs.Program as Program
 use Rattle.rows.specs.Program.{run}
 use Rattle.model.specs.Sizes.{call-limit}
-use Rattle.model.specs.Rows.{same-key, Row, Environment, Model, Effect}
+use Rattle.model.specs.Rows.{same-key, Row, Model, Effect}
 use Rattle.model.specs.Codes.{Code, E-PAR, E-SYS, values, finished, finished-values}
-use Rattle.model.specs.Calls.{Call, is-tick, View, view-of}
+use Rattle.model.specs.Calls.{Call, is-tick, view-of}
 use Rattle.model.specs.Errors.{refused}
 use Rattle.model.specs.Step.{step}
 use Rattle.model.specs.WellFormed.{WellFormed}
@@ -43,16 +43,6 @@ pub record Becomes {S : Type 0} (E : Engine S) (s : S) (m : Program.Rows Row) (a
 pub record Does {S : Type 0} (E : Engine S) (p : Effect) (s after : S) (answer : Answer) : Type 0 where
   pub becomes : Becomes E s (run same-key p (E .abs s .rows) .state) after
   pub answer-is : answer ≡ run same-key p (E .abs s .rows) .answer
-
--- A call of number n on a sound record, to which no row of the error table applies.
-pub record Accepted {S : Type 0} (E : Engine S) (n : ℕ) (s : S) (c : Call) : Type 0 where
-  pub sound : E .Sound s
-  pub number-is : c .number ≡ n
-  pub accepted : T (not (refused (view-of (E .abs s) c) c))
-
--- The step does what the definition of this call says.
-abbrev pub Performs : {S : Type 0} → Engine S → (Environment → View → Call → Effect) → S → Call → S → Answer → Type 0
-Performs E f s c after answer = Does E (f (E .abs s .environment) (view-of (E .abs s) c) c) s after answer
 
 -- ── Any record, with any call or tick ──
 

@@ -22,6 +22,12 @@ free-messages (g ∷ gs) rest = do
   free-messages gs
   rest
 
+-- A new mailbox.
+abbrev pub create : ℕ → ℕ → ℕ → Effect
+create b attribute highest = do
+  put (mailbox b) (record { defined = true; attribute = attribute; highest = highest; waiters = []; messages = [] })
+  done
+
 -- b is the mailbox that the call names and x its row; me and row are the caller and its row.
 module _ (b : ℕ) (x : MailboxRow) where
   -- To the head waiter; the message is never queued, so it stays free.
@@ -62,24 +68,25 @@ module _ (b : ℕ) (x : MailboxRow) where
   unfoldable pub receive-message : Effect → Effect
   receive-message otherwise = if not (empty (x .messages)) then take-message else otherwise
 
+  -- The waits end first, then the messages are freed; then the mailbox is undefined.
+  abbrev pub delete : Effect
+  delete = do
+    end-waits (x .waiters) E-DLT
+    free-messages (x .messages)
+    put (mailbox b) no-mailbox
+    done
+
 module _ (e : Environment) (v : View) (c : Call) where
   abbrev receive-message-until : End → Effect
   receive-message-until end = receive-message (c .object) (v .the-mailbox) (wait-for-message (c .object) (v .the-mailbox) (c .caller) (v .caller .row) end)
 
   -- 12: the highest message priority is kept with attribute 2 or 3 alone.
   abbrev pub cre-mbx : Effect
-  cre-mbx = do
-    let highest = cond (messages-by-priority (c .attribute)) (highest-of c) 0
-    put (mailbox (c .object)) (record { defined = true; attribute = c .attribute; highest = highest; waiters = []; messages = [] })
-    done
+  cre-mbx = create (c .object) (c .attribute) (cond (messages-by-priority (c .attribute)) (highest-of c) 0)
 
-  -- 13: the waits end first, then the messages are freed.
+  -- 13
   abbrev pub del-mbx : Effect
-  del-mbx = do
-    end-waits (v .the-mailbox .waiters) E-DLT
-    free-messages (v .the-mailbox .messages)
-    put (mailbox (c .object)) no-mailbox
-    done
+  del-mbx = delete (c .object) (v .the-mailbox)
 
   -- 14
   abbrev pub snd-mbx : Effect

@@ -1,5 +1,5 @@
 -- Document 01, "Task states and ticks": calls 1 and 19 to 23, where no row of the error table applies, and the tick.
-use mathlib.Core.Bool.{true, false, cond}
+use mathlib.Core.Bool.{Bool, true, false, cond}
 use mathlib.Core.List.{List, [], _∷_}
 use Prim.Native.Nat.{ℕ, suc, _+_, _%_}
 use Rattle.lists.specs.Lists.{ascending}
@@ -12,13 +12,23 @@ use Rattle.model.specs.Waits.{NoWait, wait-number, wait-object, wait-end
 use Rattle.model.specs.WaitQueues.{end-wait}
 use Rattle.model.specs.declared.Answer.{Answer}
 
+-- A new task: the whole row is written, and the suspension.
+abbrev pub define : ℕ → ℕ → Effect
+define t priority = do
+  put (task t) (record { defined = true; priority = priority; wait = NoWait; code = E-OK; word = 0 })
+  put (suspension t) false
+  done
+
+-- No wait is touched.
+abbrev pub set-suspension : ℕ → Bool → Effect
+set-suspension t suspended = do
+  put (suspension t) suspended
+  done
+
 module _ (e : Environment) (v : View) (c : Call) where
-  -- 1: the whole row is written, and the suspension.
+  -- 1
   abbrev pub define-task : Effect
-  define-task = do
-    put (task (c .object)) (record { defined = true; priority = task-priority-of c; wait = NoWait; code = E-OK; word = 0 })
-    put (suspension (c .object)) false
-    done
+  define-task = define (c .object) (task-priority-of c)
 
   -- 19
   abbrev pub rel-wai : Effect
@@ -26,16 +36,12 @@ module _ (e : Environment) (v : View) (c : Call) where
     end-wait (c .object) E-RLWAI
     done
 
-  -- 20, 21: no wait is touched.
+  -- 20, 21
   abbrev pub sus-tsk : Effect
-  sus-tsk = do
-    put (suspension (c .object)) true
-    done
+  sus-tsk = set-suspension (c .object) true
 
   abbrev pub rsm-tsk : Effect
-  rsm-tsk = do
-    put (suspension (c .object)) false
-    done
+  rsm-tsk = set-suspension (c .object) false
 
   -- 22: "look" is document 01's word for reading a task's wait and suspension.
   abbrev pub look : Effect

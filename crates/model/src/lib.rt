@@ -1,6 +1,28 @@
 // The types of the interface: what a call hands over, what it answers, and what a task's record says of its wait.
 // The definition of every call is in specs/; this crate has no code.
 
+// Document 01, "The kernel part we mean": the sizes, as specs/Sizes.antt has them. The smallest number of each kind is 1.
+pub const CALL_LIMIT: u8 = 23;
+
+pub const TASK_LIMIT: u8 = 32;
+
+pub const QUEUE_LIMIT: u8 = 16;
+
+pub const MAILBOX_LIMIT: u8 = 16;
+
+pub const MESSAGE_LIMIT: u8 = 64;
+
+// The most words that a data queue stores.
+pub const CAPACITY_LIMIT: u8 = 16;
+
+// Of tasks and of messages.
+pub const PRIORITY_LIMIT: u8 = 16;
+
+pub const TMOUT_LIMIT: i32 = 2147483646;
+
+// The latest end tick of a sound record, in ticks from now.
+pub const END_LIMIT: u32 = 2147483646;
+
 // A call with its context: the call's fields of the 32-byte record that units write (document 02, item 3), its two flags apart.
 pub struct Call {
     // The number in document 01's table of calls.

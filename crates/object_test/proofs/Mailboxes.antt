@@ -7,7 +7,7 @@ use Prim.Native.Nat.{ℕ, zero, suc, _+_, _<_, _≤_, zero-le}
 use native.Mathlib.Omega.{arith}
 use lib.Dec.{T, leb, eqb, leb→le}
 use lib.ListN.{getD}
-use borrow.Author.Tests.{leb-false}
+use borrow.Author.Tests.{eq-eqb, ne-eqb, leb-false}
 use Rattle.lists.specs.Lists.{InOrder, one-of}
 use Rattle.lists.specs.Tests.{Whether}
 use Rattle.lists.proofs.Tests.{is-map}
@@ -18,6 +18,7 @@ use Rattle.model.specs.Rows.{waiters-by-priority, messages-by-priority}
 use Rattle.model.proofs.Choices.{cond-yes}
 use Rattle.parts.specs.Chains.{task-chains, message-chains, tasks-in, messages-in}
 use Rattle.parts.specs.Mailboxes.{kept-attribute, MailboxSound, MailboxTestable, MailboxNumbersSound}
+use Rattle.parts.specs.Queues.{is-defined}
 use Rattle.parts.specs.declared.Mailbox.{Mailbox}
 use Rattle.parts.proofs.Empty.{chain-zero, unless-empty, zero-or}
 
@@ -73,9 +74,10 @@ module _ (x : Mailbox) {link key message-link message-key : List ℕ} {number : 
       × ((T (eqb (x .attribute) 1 || eqb (x .attribute) 3) → InOrder 1 priority-limit (keys-of key (getD (lists task-limit task-chains link) (32 + number) [])))
       × (T (leb 2 (x .attribute)) → InOrder 1 (x .highest) (keys-of message-key (getD (lists message-limit message-chains message-link) number [])))))
 
-  pub defined-mailbox : {b : Bool} → x .defined ≡ true → Whether Tested b → Whether (MailboxSound x link key message-link message-key number) b
+  pub defined-mailbox : {b : Bool} → x .defined ≡ 1 → Whether Tested b → Whether (MailboxSound x link key message-link message-key number) b
   unfolding tasks-in messages-in
-  defined-mailbox d i =
+  defined-mailbox one i =
+      let d : is-defined (x .defined) ≡ true = eq-eqb (x .defined) 1 one in
       let first-waiter = chain-zero (waiters-chain a) w in
       let first-message = chain-zero (messages-chain a) m in
       let kept : kept-attribute x ≡ x .attribute = rw d in
@@ -83,6 +85,7 @@ module _ (x : Mailbox) {link key message-link message-key : List ℕ} {number : 
       (λ p.
       let range = p .0 .attribute-in-range in
       record {
+        flag = omega arith;
         row = record {
           undefined = λ t. absurd (rw d at t);
           attribute-in-range = rw kept range;
@@ -107,21 +110,27 @@ module _ (x : Mailbox) {link key message-link message-key : List ℕ} {number : 
       ))
       i
 
-  pub undefined-mailbox : {b : Bool} → x .defined ≡ false → Whether ((waiter ≡ 0) × (message ≡ 0)) b → Whether (MailboxSound x link key message-link message-key number) b
+  pub undefined-mailbox : {b : Bool} → (x .defined ≡ 1 → ⊥) → Whether (((x .defined ≡ 0) × (waiter ≡ 0)) × (message ≡ 0)) b → Whether (MailboxSound x link key message-link message-key number) b
   unfolding tasks-in messages-in one-of
-  undefined-mailbox d i =
+  undefined-mailbox other i =
+      let d : is-defined (x .defined) ≡ false = ne-eqb (x .defined) 1 other in
       let first-waiter = chain-zero (waiters-chain a) w in
       let first-message = chain-zero (messages-chain a) m in
       is-map
       (λ p. record {
+        flag = let z = p .0 .0 in omega arith;
         row = record {
-          undefined = λ t. (first-waiter .then-empty (p .0), first-message .then-empty (p .1));
+          undefined = λ t. (first-waiter .then-empty (p .0 .1), first-message .then-empty (p .1));
           attribute-in-range = rw d zero-le;
           highest-in-range = λ t. absurd (rw d at t);
-          waiters = unless-empty first-waiter (λ h. h) (inl (p .0));
+          waiters = unless-empty first-waiter (λ h. h) (inl (p .0 .1));
         };
         waiters-in-order = λ t. absurd (rw d at t);
         messages-in-order = λ t. absurd (rw d at t);
       })
-      (λ y. let h = y .row .undefined (rw d tt) in (first-waiter .then-zero (h .0), first-message .then-zero (h .1)))
+      (λ y.
+      let h = y .row .undefined (rw d tt) in
+      let f = y .flag in
+      let zero : x .defined ≡ 0 = omega arith in
+      ((zero, first-waiter .then-zero (h .0)), first-message .then-zero (h .1)))
       i

@@ -7,6 +7,7 @@ use Prim.Native.Nat.{ℕ, _+_, _≤_, zero-le}
 use native.Mathlib.Omega.{arith}
 use lib.Dec.{T, eqb}
 use lib.ListN.{length, getD}
+use borrow.Author.Tests.{eq-eqb, ne-eqb}
 use Rattle.lists.specs.Lists.{InOrder, empty}
 use Rattle.lists.specs.Tests.{Whether}
 use Rattle.lists.proofs.Tests.{is-map}
@@ -17,7 +18,7 @@ use Rattle.ring.specs.declared.Ring.{Ring}
 use Rattle.ring.proofs.Stored.{length-stored}
 use Rattle.model.specs.Sizes.{task-limit, priority-limit}
 use Rattle.parts.specs.Chains.{task-chains, tasks-in}
-use Rattle.parts.specs.Queues.{QueueSound, QueueTestable, MayWait}
+use Rattle.parts.specs.Queues.{is-defined, QueueSound, QueueTestable, MayWait}
 use Rattle.parts.specs.declared.Queue.{Queue}
 use Rattle.parts.proofs.Empty.{ZeroIffEmpty, count-zero, chain-zero, unless-empty, zero-or}
 
@@ -58,14 +59,15 @@ module _ (x : Queue) {link key : List ℕ} {q : ℕ} (a : QueueTestable q link k
       × (MayWait (x .ring .count) (x .ring .capacity) sender receiver
       × (T (eqb (x .attribute) 1) → InOrder 1 priority-limit (keys-of key (getD (lists task-limit task-chains link) q []))))
 
-  pub defined-queue : {b : Bool} → x .defined ≡ true → Whether Tested b → Whether (QueueSound x link key q) b
+  pub defined-queue : {b : Bool} → x .defined ≡ 1 → Whether Tested b → Whether (QueueSound x link key q) b
   unfolding tasks-in
-  defined-queue d i =
+  defined-queue one i =
+      let d : is-defined (x .defined) ≡ true = eq-eqb (x .defined) 1 one in
       let first-sender = chain-zero (senders-chain a) s in
       let first-receiver = chain-zero (receivers-chain a) r in
       is-map
       (λ p. record {
-        ring = λ t. p .0 .1;
+        readable = record { flag = omega arith; ring = λ t. p .0 .1 };
         row = record {
           undefined = λ t. absurd (rw d at t);
           attribute-in-range = rw d (p .0 .0);
@@ -77,29 +79,34 @@ module _ (x : Queue) {link key : List ℕ} {q : ℕ} (a : QueueTestable q link k
         senders-in-order = λ t. p .1 .1 (rw d at t);
       })
       (λ y. (
-        (rw d at (y .row .attribute-in-range), y .ring (rw d tt)),
+        (rw d at (y .row .attribute-in-range), y .readable .ring (rw d tt)),
         (waits-are (x .ring) first-sender first-receiver (rw d at (y .row .senders)) (y .row .receivers), λ t. y .senders-in-order (rw d t)),
       ))
       i
 
-  pub undefined-queue : {b : Bool} → x .defined ≡ false → Whether (((x .ring .count ≡ 0) × (sender ≡ 0)) × (receiver ≡ 0)) b → Whether (QueueSound x link key q) b
+  pub undefined-queue : {b : Bool} → (x .defined ≡ 1 → ⊥) → Whether ((((x .defined ≡ 0) × (x .ring .count ≡ 0)) × (sender ≡ 0)) × (receiver ≡ 0)) b → Whether (QueueSound x link key q) b
   unfolding tasks-in
-  undefined-queue d i =
+  undefined-queue other i =
+      let d : is-defined (x .defined) ≡ false = ne-eqb (x .defined) 1 other in
       let first-sender = chain-zero (senders-chain a) s in
       let first-receiver = chain-zero (receivers-chain a) r in
       let words = counted (x .ring) in
       is-map
       (λ p. record {
-        ring = λ t. absurd (rw d at t);
+        readable = record { flag = let z = p .0 .0 .0 in omega arith; ring = λ t. absurd (rw d at t) };
         row = record {
-          undefined = λ t. (words .then-empty (p .0 .0), first-sender .then-empty (p .0 .1), first-receiver .then-empty (p .1));
+          undefined = λ t. (words .then-empty (p .0 .0 .1), first-sender .then-empty (p .0 .1), first-receiver .then-empty (p .1));
           attribute-in-range = rw d zero-le;
           capacity-in-range = rw d zero-le;
-          count = rw (d, length-stored, p .0 .0) zero-le;
+          count = rw (d, length-stored, p .0 .0 .1) zero-le;
           senders = unless-empty first-sender (λ h. h) (inl (p .0 .1));
           receivers = unless-empty first-receiver (λ h. h) (inl (p .1));
         };
         senders-in-order = λ t. absurd (rw d at t);
       })
-      (λ y. let h = y .row .undefined (rw d tt) in ((words .then-zero (h .0), first-sender .then-zero (h .1)), first-receiver .then-zero (h .2)))
+      (λ y.
+      let h = y .row .undefined (rw d tt) in
+      let f = y .readable .flag in
+      let zero : x .defined ≡ 0 = omega arith in
+      (((zero, words .then-zero (h .0)), first-sender .then-zero (h .1)), first-receiver .then-zero (h .2)))
       i

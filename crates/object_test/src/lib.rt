@@ -12,6 +12,7 @@ ghost use Rattle.parts.specs.Queues.{MayWait, QueueTestable, QueueSound};
 ghost use Rattle.parts.specs.Mailboxes.{MailboxNumbersSound, MailboxTestable, MailboxSound};
 use chain::CELLS;
 use chain::KEY_CELLS;
+use model::PRIORITY_LIMIT;
 use parts::MESSAGE_CHAINS;
 use parts::MESSAGES;
 use parts::Mailbox;
@@ -20,6 +21,9 @@ use parts::RECEIVERS;
 use parts::TASK_CHAINS;
 use parts::TASKS;
 use parts::WAITERS;
+
+// A task with this priority comes after all others.
+const LOWEST: u8 = PRIORITY_LIMIT;
 
 // Whether a chain, where that is wanted, is in order with keys from 1 to `most`.
 fn in_order_if<'a>(
@@ -63,18 +67,26 @@ pub fn queue_sound<'a>(
     let sender = chain::first(link, TASKS, TASK_CHAINS, number);
     let receiver = chain::first(link, TASKS, TASK_CHAINS, RECEIVERS + number);
     let attribute = queue.attribute;
-    let count = queue.ring.count;
-    let capacity = queue.ring.capacity;
-    if queue.defined {
-        if !((attribute <= 1) & ring::in_range(queue.ring.head, count, capacity)) {
+    let ring = queue.ring;
+    let count = ring.length();
+    if queue.defined == 1 {
+        if !((attribute <= 1) & ring.in_range()) {
             return false;
         }
-        if !may_wait(count, capacity, sender, receiver) {
+        if !may_wait(count, ring.capacity(), sender, receiver) {
             return false;
         }
-        return in_order_if(link, key, TASKS, TASK_CHAINS, number, attribute == 1, 16);
+        return in_order_if(
+            link,
+            key,
+            TASKS,
+            TASK_CHAINS,
+            number,
+            attribute == 1,
+            LOWEST,
+        );
     }
-    (count == 0) & (sender == 0) & (receiver == 0)
+    (queue.defined == 0) & (count == 0) & (sender == 0) & (receiver == 0)
 }
 
 // Whether a mailbox's numbers are in range.
@@ -84,7 +96,7 @@ fn mailbox_numbers_sound(attribute: u8, highest: u8) -> bool
     if attribute < 2 {
         return true;
     }
-    (attribute <= 3) & (1 <= highest) & (highest <= 16)
+    (attribute <= 3) & (1 <= highest) & (highest <= PRIORITY_LIMIT)
 }
 
 // Whether the mailbox of this number is sound, with those that wait at it and its messages. Both tables are sound.
@@ -104,7 +116,7 @@ pub fn mailbox_sound<'a>(
     let message = chain::first(messages, MESSAGES, MESSAGE_CHAINS, number);
     let attribute = mailbox.attribute;
     let highest = mailbox.highest;
-    if mailbox.defined {
+    if mailbox.defined == 1 {
         if !mailbox_numbers_sound(attribute, highest) {
             return false;
         }
@@ -112,7 +124,7 @@ pub fn mailbox_sound<'a>(
             return false;
         }
         let by_priority = (attribute == 1) | (attribute == 3);
-        if !in_order_if(link, key, TASKS, TASK_CHAINS, waiters, by_priority, 16) {
+        if !in_order_if(link, key, TASKS, TASK_CHAINS, waiters, by_priority, LOWEST) {
             return false;
         }
         return in_order_if(
@@ -125,5 +137,5 @@ pub fn mailbox_sound<'a>(
             highest,
         );
     }
-    (waiter == 0) & (message == 0)
+    (mailbox.defined == 0) & (waiter == 0) & (message == 0)
 }

@@ -2,3 +2,4 @@
 pub mod Stops
 pub mod Empty
 pub mod Attributes
+pub mod Codes

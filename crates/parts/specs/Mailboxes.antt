@@ -14,16 +14,17 @@ use Rattle.model.specs.Rows.{MailboxRow, waiters-by-priority, messages-by-prior
 use Rattle.model.specs.WellFormed.{MailboxWellFormed}
 use Rattle.model.specs.Waits.{waiters-of}
 use Rattle.parts.specs.Chains.{task-chains, message-chains, tasks-in, messages-in}
+use Rattle.parts.specs.Queues.{is-defined}
 use Rattle.parts.specs.declared.Mailbox.{Mailbox}
 
 -- The attribute that counts: of an undefined mailbox it isn't kept.
 abbrev pub kept-attribute : Mailbox → ℕ
-kept-attribute x = cond (x .defined) (x .attribute) 0
+kept-attribute x = cond (is-defined (x .defined)) (x .attribute) 0
 
 -- What a mailbox's record means, with the tasks that wait at it and its messages. The highest message priority is kept with attribute 2 or 3 alone.
 abbrev pub mailbox-row : Mailbox → List ℕ → List ℕ → MailboxRow
 mailbox-row x waiters messages = record {
-  defined = x .defined;
+  defined = is-defined (x .defined);
   attribute = kept-attribute x;
   highest = cond (messages-by-priority (kept-attribute x)) (x .highest) 0;
   waiters = waiters;
@@ -32,6 +33,8 @@ mailbox-row x waiters messages = record {
 
 -- Mailbox b, with the cells and keys of the tables of waiting tasks and of queued messages.
 pub record MailboxSound (x : Mailbox) (link key message-link message-key : List ℕ) (b : ℕ) : Type 0 where
+  -- It is defined or it isn't.
+  pub flag : x .defined ≤ 1
   pub row : MailboxWellFormed (mailbox-row x (tasks-in link (waiters-of b)) (messages-in message-link b))
   -- By priority, the waiters' numbers never fall.
   pub waiters-in-order : T (waiters-by-priority (kept-attribute x)) → InOrder 1 priority-limit (keys-of key (tasks-in link (waiters-of b)))

@@ -1,10 +1,10 @@
 -- Document 01, "A sound record", of one data queue and those that wait at it: its row, and what the test of it decides.
 use mathlib.Core.Path.{_≡_}
-use mathlib.Core.Bool.{cond}
+use mathlib.Core.Bool.{Bool, cond}
 use mathlib.Core.List.{List}
 use mathlib.Core.Logic.{_⊎_}
 use Prim.Native.Nat.{ℕ, _≤_}
-use lib.Dec.{T}
+use lib.Dec.{T, eqb}
 use lib.ListN.{length}
 use Rattle.lists.specs.Lists.{InOrder}
 use Rattle.chain.specs.Table.{key-cells, keys-of}
@@ -17,24 +17,33 @@ use Rattle.model.specs.Waits.{senders-of, receivers-of}
 use Rattle.parts.specs.Chains.{task-chains, tasks-in}
 use Rattle.parts.specs.declared.Queue.{Queue}
 
+-- 1 says that the object is defined; a sound record has 0 where it isn't.
+abbrev pub is-defined : ℕ → Bool
+is-defined flag = eqb flag 1
+
 -- What a queue's record means, with the tasks that wait at it. Of an undefined queue attribute and capacity aren't kept.
 abbrev pub queue-row : Queue → List ℕ → List ℕ → QueueRow
 queue-row x senders receivers = record {
-  defined = x .defined;
-  attribute = cond (x .defined) (x .attribute) 0;
-  capacity = cond (x .defined) (x .ring .capacity) 0;
+  defined = is-defined (x .defined);
+  attribute = cond (is-defined (x .defined)) (x .attribute) 0;
+  capacity = cond (is-defined (x .defined)) (x .ring .capacity) 0;
   words = stored (x .ring);
   senders = senders;
   receivers = receivers;
 }
 
+-- Its numbers say something: it is defined or it isn't, and if it is, its ring's numbers are in range.
+pub record QueueReadable (x : Queue) : Type 0 where
+  pub flag : x .defined ≤ 1
+  pub ring : T (is-defined (x .defined)) → InRange (x .ring)
+
 -- Queue q, with the cells and keys of the table of waiting tasks.
 pub record QueueSound (x : Queue) (link key : List ℕ) (q : ℕ) : Type 0 where
-  -- The ring of a queue that is defined has its numbers in range.
-  pub ring : T (x .defined) → InRange (x .ring)
+  pub readable : QueueReadable x
   pub row : QueueWellFormed (queue-row x (tasks-in link (senders-of q)) (tasks-in link (receivers-of q)))
   -- By priority, the senders' numbers never fall.
-  pub senders-in-order : T (senders-by-priority (cond (x .defined) (x .attribute) 0)) → InOrder 1 priority-limit (keys-of key (tasks-in link (senders-of q)))
+  pub senders-in-order : T (senders-by-priority (cond (is-defined (x .defined)) (x .attribute) 0))
+      → InOrder 1 priority-limit (keys-of key (tasks-in link (senders-of q)))
 
 -- What the test asks: the table is sound, and the number is a queue's.
 pub record QueueTestable (q : ℕ) (link key : List ℕ) : Type 0 where

@@ -2,7 +2,7 @@
 use mathlib.Core.Path.{_≡_, refl, sym, ap, subst, fun-ext}
 use mathlib.Core.Bool.{false}
 use mathlib.Core.List.{[], List·Memᴰ·not-nil}
-use Prim.Native.Nat.{ℕ, suc}
+use Prim.Native.Nat.{ℕ, suc, zero-le}
 use native.Mathlib.Omega.{arith}
 use lib.Dec.{T}
 use lib.ListN.{replicate, getD-replicate}
@@ -18,29 +18,26 @@ use Rattle.model.specs.Rows.{Key, task, suspension, queue, mailbox, message, va
 use Rattle.model.specs.WellFormed.{WellFormed}
 use Rattle.model.specs.Waits.{WaitQueue, senders-of, receivers-of}
 use Rattle.model.proofs.WellFormed.{empty-well-formed}
-use Rattle.model.specs.declared.Code.the-variants.{Ok}
-use Rattle.model.specs.declared.Wait.the-variants.{NoWait}
 use Rattle.parts.specs.Chains.{task-chains, message-chains, chain-number, tasks-in, messages-in}
 use Rattle.parts.specs.declared.Task.{Task}
-use Rattle.cells.specs.Tasks.{wait-of, read-code, read-task}
-use Rattle.cells.specs.Objects.{read-queue, read-mailbox}
-use Rattle.cells.specs.declared.QueueCells.{QueueCells}
+use Rattle.parts.specs.Tasks.{read-code}
+use Rattle.parts.specs.declared.Queue.{Queue}
 use Rattle.model.proofs.Tests.{from-within}
 use Rattle.record.specs.declared.State.{State}
-use Rattle.record.specs.Meaning.{no-task-cells, no-mailbox-cells, task-at, queue-at, mailbox-at, mailbox-of, cells-of, abs}
+use Rattle.record.specs.Meaning.{zero-task, zero-mailbox, task-at, queue-at, mailbox-at, mailbox-of, cells-of, abs}
 use Rattle.record.specs.Sound.{Sound}
 use Rattle.record.proofs.Rows.{cond-cases}
 
--- The cells of a data queue that isn't defined, with this ring.
-abbrev pub undefined-queue : Ring → QueueCells
-undefined-queue r = record { ring = r; defined = 0; attribute = 0 }
+-- A data queue that isn't defined, with this ring.
+abbrev pub undefined-queue : Ring → Queue
+undefined-queue r = record { ring = r; defined = 0; attribute = 0; spare = 0 }
 
 pub record Blank (r : Ring) (s : State) : Type 0 where
   pub counter : s .counter ≡ 0
-  pub tasks : s .tasks ≡ replicate 33 no-task-cells
+  pub tasks : s .tasks ≡ replicate 33 zero-task
   pub waiting : New (s .waiting .link) (s .waiting .key)
   pub queues : s .queues ≡ replicate 17 (undefined-queue r)
-  pub mailboxes : s .mailboxes ≡ replicate 17 no-mailbox-cells
+  pub mailboxes : s .mailboxes ≡ replicate 17 zero-mailbox
   pub messages : New (s .messages .link) (s .messages .key)
 
 module _ (s : State) (r : Ring) (empty : NoWordStored 0 r) (b : Blank r s) where
@@ -56,20 +53,17 @@ module _ (s : State) (r : Ring) (empty : NoWordStored 0 r) (b : Blank r s) where
   unfolding mailbox-of messages-in
   in-no-mailbox g = stands-nowhere g (lists message-limit message-chains (s .messages .link)) (λ x i. List·Memᴰ·not-nil (rw (no-messages-in x) at i))
 
-  no-task : (t : ℕ) → task-at s t ≡ record { defined = false; suspended = false; wait = NoWait; code = Ok; word = 0 }
-  unfolding read-task wait-of read-code
-  no-task t = rw (b .tasks) (ap read-task (all-same no-task-cells 33 t))
+  no-task : (t : ℕ) → task-at s t ≡ zero-task
+  no-task t = rw (b .tasks) (all-same zero-task 33 t)
 
-  no-queue : (q : ℕ) → T (valid (queue q)) → queue-at s q ≡ record { defined = false; attribute = 0; ring = r }
-  unfolding read-queue
-  no-queue q v = let range = from-within 1 queue-limit q v in rw (b .queues) (ap read-queue (getD-replicate 17 q (undefined-queue r) _ (omega arith)))
+  no-queue : (q : ℕ) → T (valid (queue q)) → queue-at s q ≡ undefined-queue r
+  no-queue q v = let range = from-within 1 queue-limit q v in rw (b .queues) (getD-replicate 17 q (undefined-queue r) _ (omega arith))
 
-  no-mailbox : (x : ℕ) → mailbox-at s x ≡ record { defined = false; attribute = 0; highest = 0 }
-  unfolding read-mailbox
-  no-mailbox x = rw (b .mailboxes) (ap read-mailbox (all-same no-mailbox-cells 17 x))
+  no-mailbox : (x : ℕ) → mailbox-at s x ≡ zero-mailbox
+  no-mailbox x = rw (b .mailboxes) (all-same zero-mailbox 17 x)
 
   cells-blank : (k : Key) → T (valid k) → cells-of s k ≡ nothing k
-  unfolding one-of
+  unfolding one-of read-code
   cells-blank (task t) v = rw (no-task t) refl
   cells-blank (suspension t) v = ap (λ (x : Task). x .suspended) (no-task t)
   cells-blank (queue q) v = cc (no-queue q v, no-tasks-in (senders-of q), no-tasks-in (receivers-of q), empty .words-are)
@@ -92,7 +86,8 @@ module _ (s : State) (r : Ring) (empty : NoWordStored 0 r) (b : Blank r s) where
       };
       waiting = b .waiting .sound task-limit task-chains (omega arith) (omega arith);
       messages = b .messages .sound message-limit message-chains (omega arith) (omega arith);
-      rings = λ q v d. rw (no-queue q v) (empty .kept .in-range);
+      queues = λ q v. rw (no-queue q v) (record { flag = zero-le; ring = λ d. empty .kept .in-range });
+      mailboxes = λ x v. rw (no-mailbox x) zero-le;
     };
     well-formed = subst WellFormed (sym blank-means) (empty-well-formed 0 (omega arith));
   }

@@ -17,12 +17,14 @@ use Rattle.model.specs.Waits.{WaitQueue, object-of, senders-of, receivers-of, w
 use Rattle.model.specs.declared.Wait.the-variants.{NoWait}
 use Rattle.model.proofs.Choices.{cond-no, cond-yes}
 use Rattle.parts.specs.Chains.{message-chains, tasks-in, messages-in}
-use Rattle.parts.specs.Tasks.{task-row}
-use Rattle.parts.specs.Queues.{queue-row}
+use Rattle.parts.specs.Tasks.{task-row, read-code, code-byte}
+use Rattle.parts.specs.Queues.{queue-row, is-defined}
 use Rattle.parts.specs.Mailboxes.{kept-attribute, mailbox-row}
 use Rattle.parts.specs.declared.Task.{Task}
 use Rattle.parts.specs.declared.Queue.{Queue}
 use Rattle.parts.specs.declared.Mailbox.{Mailbox}
+use Rattle.parts.proofs.Codes.{read-again}
+use Rattle.model.specs.WellFormed.{ends-a-wait}
 use Rattle.model.proofs.Tests.{to-within}
 use Rattle.record.specs.declared.State.{State}
 use Rattle.record.specs.Meaning.{task-at, queue-at, mailbox-at, mailbox-of, keeps-priorities, cells-of, abs}
@@ -53,7 +55,7 @@ module _ {x y : Task} {p q : ℕ} (e : SameTask x y p q) (idle : T (not (x .defi
   task-row-same =
       let d = e .existence in
       let wait : x .wait ≡ y .wait = passes-or-not (x .defined) (e .wait) (λ n. idle n ∙ sym (idle′ (subst (λ b. T (not b)) d n))) in
-      cc (d, kept-same (x .defined) (y .defined) p q 0 d (e .priority), wait, kept-same (x .defined) (y .defined) (x .code) (y .code) _ d (e .stored-code), kept-same (x .defined) (y .defined) (x .word) (y .word) 0 d (e .stored-word))
+      cc (d, kept-same (x .defined) (y .defined) p q 0 d (e .priority), wait, kept-same (x .defined) (y .defined) (read-code (x .code)) (read-code (y .code)) _ d (λ k. ap read-code (e .stored-code k)), kept-same (x .defined) (y .defined) (x .word) (y .word) 0 d (e .stored-word))
 
   -- Neither is suspended where neither is defined.
   suspension-same : (T (x .suspended) → T (x .defined)) → (T (y .suspended) → T (y .defined)) → x .suspended ≡ y .suspended
@@ -66,20 +68,20 @@ module _ {x y : Task} {p q : ℕ} (e : SameTask x y p q) (idle : T (not (x .defi
 queue-row-same : {x y : Queue} {l l′ r r′ : List ℕ} → SameQueue x y → l ≡ l′ → r ≡ r′ → queue-row x l r ≡ queue-row y l′ r′
 queue-row-same {x} {y} e s r =
     let d = e .existence in
-    cc (d, kept-same (x .defined) (y .defined) (x .attribute) (y .attribute) 0 d (e .attribute), kept-same (x .defined) (y .defined) (x .ring .capacity) (y .ring .capacity) 0 d (e .capacity), e .words, s, r)
+    cc (d, kept-same (is-defined (x .defined)) (is-defined (y .defined)) (x .attribute) (y .attribute) 0 d (e .attribute), kept-same (is-defined (x .defined)) (is-defined (y .defined)) (x .ring .capacity) (y .ring .capacity) 0 d (e .capacity), e .words, s, r)
 
 module _ {x y : Mailbox} (e : SameMailbox x y) where
   attribute-same : kept-attribute x ≡ kept-attribute y
-  attribute-same = kept-same (x .defined) (y .defined) (x .attribute) (y .attribute) 0 (e .existence) (e .attribute)
+  attribute-same = kept-same (is-defined (x .defined)) (is-defined (y .defined)) (x .attribute) (y .attribute) 0 (e .existence) (e .attribute)
 
   mailbox-row-same : {l l′ r r′ : List ℕ} → l ≡ l′ → r ≡ r′ → mailbox-row x l r ≡ mailbox-row y l′ r′
   unfolding one-of
   mailbox-row-same s r = cc (e .existence, attribute-same, kept-same (messages-by-priority (kept-attribute x)) (messages-by-priority (kept-attribute y)) (x .highest) (y .highest) 0 (ap messages-by-priority attribute-same) highest, s, r)
     where
       highest : T (messages-by-priority (kept-attribute x)) → x .highest ≡ y .highest
-      highest o = passes-or-not (x .defined)
-          (λ t. e .highest t (subst (λ a. T (messages-by-priority a)) (cond-yes (x .defined) (x .attribute) 0 t) o))
-          (λ n. absurd (subst (λ a. T (messages-by-priority a)) (cond-no (x .defined) (x .attribute) 0 n) o))
+      highest o = passes-or-not (is-defined (x .defined))
+          (λ t. e .highest t (subst (λ a. T (messages-by-priority a)) (cond-yes (is-defined (x .defined)) (x .attribute) 0 t) o))
+          (λ n. absurd (subst (λ a. T (messages-by-priority a)) (cond-no (is-defined (x .defined)) (x .attribute) 0 n) o))
 
 -- ── Records that agree mean the same ──
 
@@ -124,7 +126,11 @@ module _ (s u : State) (S : Sound s) (U : Sound u) (e : SameState s u) where
 
 -- ── Records that mean the same agree ──
 
-module _ (s u : State) (e : abs s ≡ abs u) where
+-- The stored code of a task that is defined has the number that it is read from.
+kept-number : (s : State) → Sound s → (t : ℕ) → T (valid (task t)) → T (task-at s t .defined) → code-byte (read-code (task-at s t .code)) ≡ task-at s t .code
+kept-number s S t v d = read-again (task-at s t .code) (subst (λ c. T (ends-a-wait c)) (cond-yes (task-at s t .defined) _ _ d) (sound-parts s S .tasks t v .row .code))
+
+module _ (s u : State) (S : Sound s) (U : Sound u) (e : abs s ≡ abs u) where
   cells : (k : Key) → T (valid k) → cells-of s k ≡ cells-of u k
   cells k v = sym (row-is s k v) ∙ (ap (λ (m : Model). m .rows k) e ∙ row-is u k v)
 
@@ -137,7 +143,9 @@ module _ (s u : State) (e : abs s ≡ abs u) where
         priority = same-kept (task-at s t .defined) (task-at u t .defined) _ _ 0 d (ap (λ (x : TaskRow). x .priority) c);
         wait = λ h. ap (λ (x : TaskRow). x .wait) c;
         suspension = λ h. cells (suspension t) v;
-        stored-code = same-kept (task-at s t .defined) (task-at u t .defined) _ _ _ d (ap (λ (x : TaskRow). x .code) c);
+        stored-code = λ h.
+            let same = same-kept (task-at s t .defined) (task-at u t .defined) _ _ _ d (ap (λ (x : TaskRow). x .code) c) h in
+            sym (kept-number s S t v h) ∙ (ap code-byte same ∙ kept-number u U t v (subst T d h));
         stored-word = same-kept (task-at s t .defined) (task-at u t .defined) _ _ 0 d (ap (λ (x : TaskRow). x .word) c);
       }
 
@@ -147,8 +155,8 @@ module _ (s u : State) (e : abs s ≡ abs u) where
       let d = ap (λ (x : QueueRow). x .defined) c in
       record {
         existence = d;
-        attribute = same-kept (queue-at s q .defined) (queue-at u q .defined) _ _ 0 d (ap (λ (x : QueueRow). x .attribute) c);
-        capacity = same-kept (queue-at s q .defined) (queue-at u q .defined) _ _ 0 d (ap (λ (x : QueueRow). x .capacity) c);
+        attribute = same-kept (is-defined (queue-at s q .defined)) (is-defined (queue-at u q .defined)) _ _ 0 d (ap (λ (x : QueueRow). x .attribute) c);
+        capacity = same-kept (is-defined (queue-at s q .defined)) (is-defined (queue-at u q .defined)) _ _ 0 d (ap (λ (x : QueueRow). x .capacity) c);
         words = ap (λ (x : QueueRow). x .words) c;
       }
 
@@ -159,9 +167,9 @@ module _ (s u : State) (e : abs s ≡ abs u) where
       let a = ap (λ (x : MailboxRow). x .attribute) c in
       record {
         existence = d;
-        attribute = same-kept (mailbox-at s b .defined) (mailbox-at u b .defined) _ _ 0 d a;
+        attribute = same-kept (is-defined (mailbox-at s b .defined)) (is-defined (mailbox-at u b .defined)) _ _ 0 d a;
         highest = λ t o. same-kept (messages-by-priority (kept-attribute (mailbox-at s b))) (messages-by-priority (kept-attribute (mailbox-at u b))) _ _ 0 (ap messages-by-priority a) (ap (λ (x : MailboxRow). x .highest) c)
-            (subst (λ n. T (messages-by-priority n)) (sym (cond-yes (mailbox-at s b .defined) _ 0 t)) o);
+            (subst (λ n. T (messages-by-priority n)) (sym (cond-yes (is-defined (mailbox-at s b .defined)) _ 0 t)) o);
       }
 
   means-wait-queue : (k : WaitQueue) → T (valid (object-of k)) → tasks-in (s .waiting .link) k ≡ tasks-in (u .waiting .link) k
@@ -189,7 +197,7 @@ module _ (s u : State) (e : abs s ≡ abs u) where
   }
 
 pub equal-states : EqualStates
-equal-states s u S U = (same-means s u S U, means-same s u)
+equal-states s u S U = (same-means s u S U, means-same s u S U)
 
 -- So the demands' theorems hold of the record.
 pub state-lawful : Lawful state-engine

@@ -15,7 +15,6 @@ use Rattle.rows.proofs.Update.{update-cases}
 use Rattle.chain.specs.Changes.{HasChain, Changed}
 use Rattle.chain.specs.declared.Chains.{Chains}
 use Rattle.chain.proofs.Standing.{new-list, other-list}
-use Rattle.ring.specs.Ring.{InRange}
 use Rattle.model.specs.Sizes.{task-limit, queue-limit}
 use Rattle.model.specs.Rows.{Key, task, suspension, queue, mailbox, message, same-key, valid, Row, Environment, Effect, nothing}
 use Rattle.model.specs.Codes.{values}
@@ -29,16 +28,12 @@ use Rattle.model.proofs.After.{After, after-return}
 use Rattle.model.proofs.Tests.{from-within}
 use Rattle.parts.specs.Chains.{task-chains, chain-number, tasks-in}
 use Rattle.parts.specs.Tasks.{task-row}
-use Rattle.parts.specs.Queues.{queue-row}
+use Rattle.parts.specs.Queues.{queue-row, QueueReadable}
 use Rattle.parts.specs.declared.Task.{Task}
 use Rattle.parts.specs.declared.Queue.{Queue}
-use Rattle.cells.specs.Tasks.{read-task}
-use Rattle.cells.specs.Objects.{read-queue}
-use Rattle.cells.specs.declared.TaskCells.{TaskCells}
-use Rattle.cells.specs.declared.QueueCells.{QueueCells}
-use Rattle.cells.specs.declared.MailboxCells.{MailboxCells}
+use Rattle.parts.specs.declared.Mailbox.{Mailbox}
 use Rattle.record.specs.declared.State.{State}
-use Rattle.record.specs.Meaning.{no-task-cells, no-queue-cells, task-at, queue-at, cells-of, abs}
+use Rattle.record.specs.Meaning.{zero-task, zero-queue, task-at, queue-at, cells-of, abs}
 use Rattle.record.specs.Sound.{Readable}
 use Rattle.record.specs.declared.Step.{Step}
 use Rattle.record.specs.Step.{state-engine, Becomes, refusal-of}
@@ -47,16 +42,16 @@ use Rattle.record.proofs.Chains.{chain-range}
 
 -- ── A record with one part changed ──
 
-abbrev pub with-task : ℕ → TaskCells → State → State
+abbrev pub with-task : ℕ → Task → State → State
 with-task t y s = record { counter = s .counter; tasks = set (s .tasks) t y; waiting = s .waiting; queues = s .queues; mailboxes = s .mailboxes; messages = s .messages }
 
 abbrev pub with-waiting : List ℕ → State → State
 with-waiting link s = record { counter = s .counter; tasks = s .tasks; waiting = record { link = link; key = s .waiting .key }; queues = s .queues; mailboxes = s .mailboxes; messages = s .messages }
 
-abbrev pub with-queue : ℕ → QueueCells → State → State
+abbrev pub with-queue : ℕ → Queue → State → State
 with-queue q y s = record { counter = s .counter; tasks = s .tasks; waiting = s .waiting; queues = set (s .queues) q y; mailboxes = s .mailboxes; messages = s .messages }
 
-abbrev pub with-mailbox : ℕ → MailboxCells → State → State
+abbrev pub with-mailbox : ℕ → Mailbox → State → State
 with-mailbox b y s = record { counter = s .counter; tasks = s .tasks; waiting = s .waiting; queues = s .queues; mailboxes = set (s .mailboxes) b y; messages = s .messages }
 
 abbrev pub with-messages : Chains → State → State
@@ -104,27 +99,28 @@ meaning e a = record { rows-are = a .rows-are ∙ e; environment-is = a .environ
 
 -- ── Tasks ──
 
-module _ {s : State} (R : Readable s) (t : ℕ) (ok : T (valid (task t))) (y : TaskCells) where
+module _ {s : State} (R : Readable s) (t : ℕ) (ok : T (valid (task t))) (y : Task) where
   task-fits : t < length (s .tasks)
   task-fits = let r = from-within 1 task-limit t ok in let n = R .sizes .tasks in omega arith
 
-  pub new-task : task-at (with-task t y s) t ≡ read-task y
-  new-task = ap read-task (getD-set-same (s .tasks) t y no-task-cells task-fits)
+  pub new-task : task-at (with-task t y s) t ≡ y
+  new-task = getD-set-same (s .tasks) t y zero-task task-fits
 
   pub other-task : (j : ℕ) → j ≢ t → task-at (with-task t y s) j ≡ task-at s j
-  other-task j n = ap read-task (getD-set-other (s .tasks) t j y no-task-cells n)
+  other-task j n = getD-set-other (s .tasks) t j y zero-task n
 
   pub readable-task : Readable (with-task t y s)
   readable-task = record {
     sizes = record { tasks = length-set (s .tasks) t y ∙ R .sizes .tasks; queues = R .sizes .queues; mailboxes = R .sizes .mailboxes; task-keys = R .sizes .task-keys; message-keys = R .sizes .message-keys };
     waiting = R .waiting;
     messages = R .messages;
-    rings = R .rings;
+    queues = R .queues;
+    mailboxes = R .mailboxes;
   }
 
   -- A task with its suspension as it was.
-  pub task-changed : read-task y .suspended ≡ task-at s t .suspended
-      → Becomes s (update same-key (task t) (task-row (read-task y) (getD (s .waiting .key) t 0)) (abs s .rows)) (with-task t y s)
+  pub task-changed : y .suspended ≡ task-at s t .suspended
+      → Becomes s (update same-key (task t) (task-row y (getD (s .waiting .key) t 0)) (abs s .rows)) (with-task t y s)
   task-changed e = record {
     rows-are = changed-row s (with-task t y s) (task t) _ ok (ap (λ (x : Task). task-row x (getD (s .waiting .key) t 0)) new-task) others;
     environment-is = same-environment _ _ refl;
@@ -174,7 +170,8 @@ module _ {s : State} (R : Readable s) (k : WaitQueue) (ok : T (valid (object-of 
     sizes = record { tasks = R .sizes .tasks; queues = R .sizes .queues; mailboxes = R .sizes .mailboxes; task-keys = R .sizes .task-keys; message-keys = R .sizes .message-keys };
     waiting = d .sound;
     messages = R .messages;
-    rings = R .rings;
+    queues = R .queues;
+    mailboxes = R .mailboxes;
   }
 
   -- The rows of all numbers but the one whose wait queue it is.
@@ -203,34 +200,35 @@ waiting-changed {s} R k ok link l d = record { rows-are = rows k ok d; environme
 
 -- ── Data queues ──
 
-module _ {s : State} (R : Readable s) (q : ℕ) (ok : T (valid (queue q))) (y : QueueCells) where
+module _ {s : State} (R : Readable s) (q : ℕ) (ok : T (valid (queue q))) (y : Queue) where
   queue-fits : q < length (s .queues)
   queue-fits = let r = from-within 1 queue-limit q ok in let n = R .sizes .queues in omega arith
 
-  new-queue : queue-at (with-queue q y s) q ≡ read-queue y
-  new-queue = ap read-queue (getD-set-same (s .queues) q y no-queue-cells queue-fits)
+  new-queue : queue-at (with-queue q y s) q ≡ y
+  new-queue = getD-set-same (s .queues) q y zero-queue queue-fits
 
   other-queue : (j : ℕ) → j ≢ q → queue-at (with-queue q y s) j ≡ queue-at s j
-  other-queue j n = ap read-queue (getD-set-other (s .queues) q j y no-queue-cells n)
+  other-queue j n = getD-set-other (s .queues) q j y zero-queue n
 
-  readable-queue : (T (read-queue y .defined) → InRange (read-queue y .ring)) → Readable (with-queue q y s)
-  readable-queue ring = record {
+  readable-queue : QueueReadable y → Readable (with-queue q y s)
+  readable-queue new = record {
     sizes = record { tasks = R .sizes .tasks; queues = length-set (s .queues) q y ∙ R .sizes .queues; mailboxes = R .sizes .mailboxes; task-keys = R .sizes .task-keys; message-keys = R .sizes .message-keys };
     waiting = R .waiting;
     messages = R .messages;
-    rings = λ j v. elim (ℕ-discrete j q) [
-      | yes e ↦ rw (e, new-queue) ring
-      | no n ↦ rw (other-queue j n) (R .rings j v)
+    queues = λ j v. elim (ℕ-discrete j q) [
+      | yes e ↦ rw (e, new-queue) new
+      | no n ↦ rw (other-queue j n) (R .queues j v)
     ];
+    mailboxes = R .mailboxes;
   }
 
   -- A data queue with its wait queues as they were.
-  pub queue-changed : {x : Queue} → read-queue y ≡ x → (T (x .defined) → InRange (x .ring))
-      → Becomes s (update same-key (queue q) (queue-row x (abs s .rows (queue q) .senders) (abs s .rows (queue q) .receivers)) (abs s .rows)) (with-queue q y s)
-  queue-changed {x} e ring = record {
-    rows-are = changed-row s (with-queue q y s) (queue q) _ ok (rw (row-is s (queue q) ok, new-queue, e) refl) others;
+  pub queue-changed : QueueReadable y
+      → Becomes s (update same-key (queue q) (queue-row y (abs s .rows (queue q) .senders) (abs s .rows (queue q) .receivers)) (abs s .rows)) (with-queue q y s)
+  queue-changed new = record {
+    rows-are = changed-row s (with-queue q y s) (queue q) _ ok (rw (row-is s (queue q) ok, new-queue) refl) others;
     environment-is = same-environment _ _ refl;
-    readable = readable-queue (rw e ring);
+    readable = readable-queue new;
   }
     where
       others : (j : Key) → j ≢ queue q → T (valid j) → cells-of (with-queue q y s) j ≡ cells-of s j

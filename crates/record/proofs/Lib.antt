@@ -4,9 +4,7 @@ pub mod Chains
 pub mod Standing
 pub mod Keys
 pub mod Laws
-pub mod Accepted
 pub mod Parts
 pub mod Equal
 pub mod Empty
 pub mod Testing
-pub mod Numbers

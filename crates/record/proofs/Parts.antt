@@ -94,7 +94,7 @@ module _ (s : State) (p : Parts s) where
   pub parts-sound : Sound s
   unfolding abs
   parts-sound = record {
-    readable = record { sizes = p .sizes; waiting = p .waiting; messages = p .messages; rings = λ q v d. p .queues q v .ring d };
+    readable = record { sizes = p .sizes; waiting = p .waiting; messages = p .messages; queues = λ q v. p .queues q v .readable; mailboxes = λ b v. p .mailboxes b v .flag };
     well-formed = record {
       counter-in-range = p .counter;
       rows = record {
@@ -136,13 +136,14 @@ module _ (s : State) (S : Sound s) where
 
   sound-queue : (q : ℕ) → T (valid (queue q)) → QueueAt s q
   sound-queue q v = record {
-    ring = S .readable .rings q v;
+    readable = S .readable .queues q v;
     row = subst QueueWellFormed (row-is s (queue q) v) (well-formed-rows .queues q);
     senders-in-order = λ o. keys-ordered (senders-of q) v (subst (λ (x : QueueRow). T (senders-by-priority (x .attribute))) (sym (row-is s (queue q) v)) o);
   }
 
   sound-mailbox : (b : ℕ) → T (valid (mailbox b)) → MailboxAt s b
   sound-mailbox b v = record {
+    flag = S .readable .mailboxes b v;
     row = subst MailboxWellFormed (row-is s (mailbox b) v) (well-formed-rows .mailboxes b);
     waiters-in-order = λ o. keys-ordered (waiters-of b) v (subst (λ (x : MailboxRow). T (waiters-by-priority (x .attribute))) (sym (row-is s (mailbox b) v)) o);
     messages-in-order = λ o. rw (highest-is s b v o, kept-priorities-are s (S .readable .messages) b v o)

@@ -12,13 +12,11 @@ use Rattle.chain.specs.Table as chain
 use Rattle.model.specs.Sizes.{task-limit, queue-limit, mailbox-limit, message-limit, counter-span}
 use Rattle.parts.specs.Chains.{task-chains, message-chains}
 use Rattle.parts.specs.Tasks.{TaskSound}
-use Rattle.parts.specs.Queues.{QueueTestable, QueueSound}
-use Rattle.parts.specs.Mailboxes.{MailboxTestable, MailboxSound}
-use Rattle.parts.specs.declared.Queue.{Queue}
-use Rattle.parts.specs.declared.Mailbox.{Mailbox}
+use Rattle.parts.specs.Queues.{QueueTestable}
+use Rattle.parts.specs.Mailboxes.{MailboxTestable}
 use Rattle.model.proofs.Tests.{from-within}
 use Rattle.record.specs.declared.State.{State}
-use Rattle.record.specs.Meaning.{task-at, queue-at, mailbox-at}
+use Rattle.record.specs.Meaning.{task-at}
 use Rattle.record.specs.Sound.{Sizes}
 use Rattle.record.proofs.Standing.{task-lists}
 use Rattle.record.proofs.Parts.{TaskAt, QueueAt, MailboxAt, Parts}
@@ -60,14 +58,6 @@ mailbox-testable w low high =
 pub task-tested : {s : State} {standing : List ℕ} {priority : ℕ} {answer : Bool} (t : ℕ) → Marked s standing → priority ≡ getD (s .waiting .key) t 0
     → Whether (TaskSound (s .counter) priority (getD standing t 0) (task-at s t)) answer → Whether (TaskAt s t) answer
 task-tested t m e w = rw (e, m .marks-are t) at w
-
--- The test of a data queue and of a mailbox, handed what its cells are read as.
-pub queue-tested : {s : State} {x : Queue} {answer : Bool} → Walked s → (q : ℕ) → x ≡ queue-at s q → Whether (QueueSound x (s .waiting .link) (s .waiting .key) q) answer → Whether (QueueAt s q) answer
-queue-tested {s} {answer = answer} walked q e w = subst (λ (y : Queue). Whether (QueueSound y (s .waiting .link) (s .waiting .key) q) answer) e w
-
-pub mailbox-tested : {s : State} {x : Mailbox} {answer : Bool} → Walked s → (b : ℕ) → x ≡ mailbox-at s b
-    → Whether (MailboxSound x (s .waiting .link) (s .waiting .key) (s .messages .link) (s .messages .key) b) answer → Whether (MailboxAt s b) answer
-mailbox-tested {s} {answer = answer} walked b e w = subst (λ (y : Mailbox). Whether (MailboxSound y (s .waiting .link) (s .waiting .key) (s .messages .link) (s .messages .key) b) answer) e w
 
 pub tested-parts : {s : State} → Walked s → Below (TaskAt s) 33 → Below (λ n. QueueAt s n × MailboxAt s n) 17 → Parts s
 tested-parts w f g = record {

@@ -9,6 +9,7 @@ use Rattle.ring.specs.Ring.{stored}
 use Rattle.model.specs.Rows.{task, queue, mailbox, message, valid, messages-by-priority}
 use Rattle.model.specs.Waits.{WaitQueue, object-of}
 use Rattle.parts.specs.Chains.{tasks-in, messages-in}
+use Rattle.parts.specs.Queues.{is-defined}
 use Rattle.parts.specs.declared.Task.{Task}
 use Rattle.parts.specs.declared.Queue.{Queue}
 use Rattle.parts.specs.declared.Mailbox.{Mailbox}
@@ -27,16 +28,16 @@ pub record SameTask (x y : Task) (x-priority y-priority : ℕ) : Type 0 where
 
 -- Two data queues: whether they exist, and if they do, attribute and capacity; and the stored words in order.
 pub record SameQueue (x y : Queue) : Type 0 where
-  pub existence : x .defined ≡ y .defined
-  pub attribute : T (x .defined) → x .attribute ≡ y .attribute
-  pub capacity : T (x .defined) → x .ring .capacity ≡ y .ring .capacity
+  pub existence : is-defined (x .defined) ≡ is-defined (y .defined)
+  pub attribute : T (is-defined (x .defined)) → x .attribute ≡ y .attribute
+  pub capacity : T (is-defined (x .defined)) → x .ring .capacity ≡ y .ring .capacity
   pub words : stored (x .ring) ≡ stored (y .ring)
 
 -- Two mailboxes: whether they exist, and if they do, the attribute and, with attribute 2 or 3, the highest message priority.
 pub record SameMailbox (x y : Mailbox) : Type 0 where
-  pub existence : x .defined ≡ y .defined
-  pub attribute : T (x .defined) → x .attribute ≡ y .attribute
-  pub highest : T (x .defined) → T (messages-by-priority (x .attribute)) → x .highest ≡ y .highest
+  pub existence : is-defined (x .defined) ≡ is-defined (y .defined)
+  pub attribute : T (is-defined (x .defined)) → x .attribute ≡ y .attribute
+  pub highest : T (is-defined (x .defined)) → T (messages-by-priority (x .attribute)) → x .highest ≡ y .highest
 
 pub record SameState (s u : State) : Type 0 where
   pub counter : s .counter ≡ u .counter

@@ -2,4 +2,3 @@ pub mod Meaning
 pub mod Sound
 pub mod Equal
 pub mod Step
-pub mod Numbers

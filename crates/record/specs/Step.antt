@@ -1,9 +1,7 @@
 -- Document 01, "The kernel part we mean" (each core step takes the whole state and hands it back): what a step of a `State` promises is what a step of any
 -- engine's record does (crate model, Engine.antt).
-use Prim.Native.Nat.{ℕ}
 use Rattle.rows.specs.Program as Program
-use Rattle.model.specs.Rows.{Row, Environment, Effect}
-use Rattle.model.specs.Calls.{View}
+use Rattle.model.specs.Rows.{Row, Effect}
 use Rattle.model.specs.Codes.{finished}
 use Rattle.model.specs.Engine.{Engine}
 use Rattle.model.specs.Engine as engine
@@ -28,12 +26,6 @@ Becomes s m after = engine.Becomes state-engine s m after
 
 abbrev pub Does : Effect → State → Step → Type 0
 Does p s r = engine.Does state-engine p s (r .state) (r .answer)
-
-abbrev pub Accepted : ℕ → State → Call → Type 0
-Accepted n s c = engine.Accepted state-engine n s c
-
-abbrev pub Performs : (Environment → View → Call → Effect) → State → Call → Step → Type 0
-Performs f s c r = engine.Performs state-engine f s c (r .state) (r .answer)
 
 -- ── Any record, with any call or tick ──
 

@@ -27,14 +27,10 @@ unfoldable pub stored : Ring → List ℕ
 stored r = words-from (λ place. getD (r .words) place 0) places (r .head) (r .count)
 
 -- A ring starts at one of its places, and stores no more words than its capacity, which is at most its places.
-pub record NumbersInRange (head count capacity : ℕ) : Type 0 where
-  pub head-is-place : head < places
-  pub count-fits : count ≤ capacity
-  pub capacity-fits : capacity ≤ places
-
--- The same, of a ring's own numbers.
-abbrev pub InRange : Ring → Type 0
-InRange r = NumbersInRange (r .head) (r .count) (r .capacity)
+pub record InRange (r : Ring) : Type 0 where
+  pub head-is-place : r .head < places
+  pub count-fits : r .count ≤ r .capacity
+  pub capacity-fits : r .capacity ≤ places
 
 -- What holds of every ring that a method hands back: it is in range, with this capacity.
 pub record Kept (capacity : ℕ) (r : Ring) : Type 0 where

@@ -4,11 +4,12 @@ ghost use mathlib.Core.Path.{_≡_};
 ghost use Prim.Native.Nat.{_<_, _≤_};
 ghost use lib.ListN.{length};
 ghost use Rattle.lists.specs.Tests.{Whether};
-ghost use Rattle.ring.specs.Ring.{places, further, stored, NumbersInRange, InRange, NoWordStored, Pushed, OldestPopped, Replaced};
+ghost use Rattle.ring.specs.Ring.{places, further, stored, InRange, NoWordStored, Pushed, OldestPopped, Replaced};
 
-pub const PLACES: usize = 16;
+// The places of a ring, as a byte like places and counts, and as a length.
+const PLACE_LIMIT: u8 = 16;
 
-// The number 16 below is PLACES as a byte, the type of places and counts.
+pub const PLACES: usize = PLACE_LIMIT as usize;
 
 #[repr(C)]
 pub struct Ring {
@@ -16,6 +17,8 @@ pub struct Ring {
     pub head: u8,
     pub count: u8,
     pub capacity: u8,
+    // Says nothing. It has a name so that no byte of a record that a host lends is left to chance; a new ring has 0 here.
+    pub spare: u8,
 }
 
 // The oldest word, and the ring without it.
@@ -29,7 +32,7 @@ fn next_place(place: u8) -> u8
     requires { ⌜ place < places ⌝ }
     ensures { λ r. ⌜ r ≡ further places place 1 ⌝ }
 {
-    (place + 1) % 16
+    (place + 1) % PLACE_LIMIT
 }
 
 // The place n steps after this one.
@@ -37,14 +40,7 @@ fn place_further(place: u8, n: u8) -> usize
     requires { ⌜ (place < places) × (n ≤ places) ⌝ }
     ensures { λ r. ⌜ r ≡ further places place n ⌝ }
 {
-    ((place + n) % 16) as usize
-}
-
-// Whether a ring with these numbers is in range.
-pub fn in_range(head: u8, count: u8, capacity: u8) -> bool
-    ensures { λ r. ⌜ Whether (NumbersInRange head count capacity) r ⌝ }
-{
-    (head < 16) & (count <= capacity) & (capacity <= 16)
+    ((place + n) % PLACE_LIMIT) as usize
 }
 
 impl Ring {
@@ -58,7 +54,15 @@ impl Ring {
             head: 0,
             count: 0,
             capacity,
+            spare: 0,
         }
+    }
+
+    // Whether the ring's numbers are in range.
+    pub fn in_range(self) -> bool
+        ensures { λ r. ⌜ Whether (InRange self) r ⌝ }
+    {
+        (self.head < PLACE_LIMIT) & (self.count <= self.capacity) & (self.capacity <= PLACE_LIMIT)
     }
 
     // How many words are stored.

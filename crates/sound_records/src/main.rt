@@ -1,18 +1,17 @@
 // Reads records from standard input until no whole one is left, and prints for each whether the kernel's state that it describes is sound.
 ghost use Prim.Native.Nat.{_+_, _<_, _≤_};
-use cells::MailboxCells;
-use cells::QueueCells;
-use cells::TaskCells;
 use chain::CELLS;
 use chain::Chains;
 use chain::KEY_CELLS;
+use host_tasks::HostTask;
 use libc::STDIN_FILENO;
 use libc::STDOUT_FILENO;
-use model::Code;
-use model::End;
-use model::Wait;
+use model::Call;
+use parts::MAILBOX_CELLS;
 use parts::Mailbox;
+use parts::QUEUE_CELLS;
 use parts::Queue;
+use parts::TASK_CELLS;
 use parts::Task;
 use record::State;
 use ring::PLACES;
@@ -53,13 +52,6 @@ fn byte_at(record: &[u8; RECORD], at: usize) -> u8
     record[at]
 }
 
-// A byte that stands for true where it isn't 0.
-fn flag_at(record: &[u8; RECORD], at: usize) -> bool
-    requires { ⌜ at < 1152 ⌝ }
-{
-    record[at] != 0
-}
-
 // A byte as a word, so that it can be shifted to its place.
 fn wide(x: u8) -> u32 {
     x as u32
@@ -76,87 +68,36 @@ fn word_at(record: &[u8; RECORD], at: usize) -> u32
 
 // ── Tasks ──
 
-// When the wait of the task at this byte ends.
-fn end_at(record: &[u8; RECORD], at: usize) -> End
+// A task's numbers, in the order in which a host's record has them. One that says nothing reads as what no sound record has.
+fn task_at(record: &[u8; RECORD], at: usize) -> Task
     requires { ⌜ at + 20 ≤ 1152 ⌝ }
 {
-    if byte_at(record, at + 4) == 0 {
-        return End::Never;
-    }
-    let tick = word_at(record, at + 8);
-    End::At(tick)
-}
-
-// What the task at this byte waits for.
-fn wait_at(record: &[u8; RECORD], at: usize) -> Wait
-    requires { ⌜ at + 20 ≤ 1152 ⌝ }
-{
-    let kind = byte_at(record, at + 2);
-    let object = byte_at(record, at + 3);
-    let end = end_at(record, at);
-    if kind == 0 {
-        return Wait::NoWait;
-    }
-    if kind == 1 {
-        let word = word_at(record, at + 12);
-        return Wait::Sending {
-            queue: object,
-            end,
-            word,
-        };
-    }
-    if kind == 2 {
-        return Wait::Receiving { queue: object, end };
-    }
-    Wait::AtMailbox {
-        mailbox: object,
-        end,
-    }
-}
-
-// The code of this number, in the order of the type.
-fn code_in_order(number: u8) -> Code {
-    match number {
-        0 => Code::Ok,
-        1 => Code::Sys,
-        2 => Code::Par,
-        3 => Code::Id,
-        4 => Code::Ctx,
-        5 => Code::Iluse,
-        6 => Code::Obj,
-        7 => Code::Noexs,
-        8 => Code::Qovr,
-        9 => Code::Rlwai,
-        10 => Code::Tmout,
-        _ => Code::Dlt,
-    }
-}
-
-// A task's bytes are: defined, suspended, the wait's kind, its object, the end's kind, the stored code, and two that nothing uses. Then come
-// three words: the end's tick, the word that a sender holds, the stored word.
-fn task_at(record: &[u8; RECORD], at: usize) -> TaskCells
-    requires { ⌜ at + 20 ≤ 1152 ⌝ }
-{
-    let defined = flag_at(record, at);
-    let suspended = flag_at(record, at + 1);
-    let wait = wait_at(record, at);
-    let code = code_in_order(byte_at(record, at + 5));
-    let word = word_at(record, at + 16);
-    cells::write_task(Task {
-        defined,
-        suspended,
-        wait,
-        code,
+    let word = word_at(record, at);
+    let end = word_at(record, at + 4);
+    let sending = word_at(record, at + 8);
+    let wait = byte_at(record, at + 12);
+    let object = byte_at(record, at + 13);
+    let timed = byte_at(record, at + 14);
+    let code = byte_at(record, at + 15);
+    let flags = word_at(record, at + 16);
+    host_tasks::read_task(HostTask {
         word,
+        end,
+        sending,
+        wait,
+        object,
+        timed,
+        code,
+        flags,
     })
 }
 
 // All tasks, and cell 0, in which anything may stand.
-fn tasks_of(record: &[u8; RECORD]) -> [TaskCells; 33] {
+fn tasks_of(record: &[u8; RECORD]) -> [Task; TASK_CELLS] {
     let first = task_at(record, TASKS_AT);
-    let mut tasks = [first; 33];
+    let mut tasks = [first; TASK_CELLS];
     let mut t: usize = 1;
-    while t < 33 {
+    while t < TASK_CELLS {
         let task = task_at(record, TASKS_AT + 20 * t);
         tasks[t] = task;
         t += 1;
@@ -167,10 +108,10 @@ fn tasks_of(record: &[u8; RECORD]) -> [TaskCells; 33] {
 // ── Objects ──
 
 // A data queue's bytes are: defined, attribute, and its ring's head, count and capacity. Soundness asks nothing of the ring's words.
-fn queue_at(record: &[u8; RECORD], at: usize) -> QueueCells
+fn queue_at(record: &[u8; RECORD], at: usize) -> Queue
     requires { ⌜ at + 5 ≤ 1152 ⌝ }
 {
-    let defined = flag_at(record, at);
+    let defined = byte_at(record, at);
     let attribute = byte_at(record, at + 1);
     let head = byte_at(record, at + 2);
     let count = byte_at(record, at + 3);
@@ -180,20 +121,22 @@ fn queue_at(record: &[u8; RECORD], at: usize) -> QueueCells
         head,
         count,
         capacity,
+        spare: 0,
     };
-    cells::write_queue(Queue {
+    Queue {
+        ring,
         defined,
         attribute,
-        ring,
-    })
+        spare: 0,
+    }
 }
 
 // All data queues, and cell 0.
-fn queues_of(record: &[u8; RECORD]) -> [QueueCells; 17] {
+fn queues_of(record: &[u8; RECORD]) -> [Queue; QUEUE_CELLS] {
     let first = queue_at(record, QUEUES_AT);
-    let mut queues = [first; 17];
+    let mut queues = [first; QUEUE_CELLS];
     let mut n: usize = 1;
-    while n < 17 {
+    while n < QUEUE_CELLS {
         let queue = queue_at(record, QUEUES_AT + 5 * n);
         queues[n] = queue;
         n += 1;
@@ -202,25 +145,25 @@ fn queues_of(record: &[u8; RECORD]) -> [QueueCells; 17] {
 }
 
 // A mailbox's bytes are: defined, attribute, highest message priority.
-fn mailbox_at(record: &[u8; RECORD], at: usize) -> MailboxCells
+fn mailbox_at(record: &[u8; RECORD], at: usize) -> Mailbox
     requires { ⌜ at + 3 ≤ 1152 ⌝ }
 {
-    let defined = flag_at(record, at);
+    let defined = byte_at(record, at);
     let attribute = byte_at(record, at + 1);
     let highest = byte_at(record, at + 2);
-    cells::write_mailbox(Mailbox {
+    Mailbox {
         defined,
         attribute,
         highest,
-    })
+    }
 }
 
 // All mailboxes, and cell 0.
-fn mailboxes_of(record: &[u8; RECORD]) -> [MailboxCells; 17] {
+fn mailboxes_of(record: &[u8; RECORD]) -> [Mailbox; MAILBOX_CELLS] {
     let first = mailbox_at(record, MAILBOXES_AT);
-    let mut mailboxes = [first; 17];
+    let mut mailboxes = [first; MAILBOX_CELLS];
     let mut n: usize = 1;
-    while n < 17 {
+    while n < MAILBOX_CELLS {
         let mailbox = mailbox_at(record, MAILBOXES_AT + 3 * n);
         mailboxes[n] = mailbox;
         n += 1;
@@ -321,6 +264,20 @@ fn print_answer(sound: bool) {
     }
 }
 
+// The test is a part of what every call sees, so some call has to be made: look, by caller 0, of task 0.
+fn any_call() -> Call {
+    Call {
+        number: 22,
+        caller: 0,
+        locked: false,
+        disabled: false,
+        object: 0,
+        value: 0,
+        tmout: 0,
+        attribute: 0,
+    }
+}
+
 // Reads a record and prints its line. False where no whole record is left.
 fn answer_record() -> bool {
     let mut record = [0u8; RECORD];
@@ -328,7 +285,7 @@ fn answer_record() -> bool {
         return false;
     }
     let state = state_of(&record);
-    let sound = state.sound();
+    let sound = see::see(state, any_call()).sound;
     print_label(&record);
     print_answer(sound);
     true

@@ -1,6 +1,6 @@
 -- What the tests of a task's parts say: by the cases of a wait, and by the wrapping difference of two ticks.
 use mathlib.Core.Path.{_≡_, sym, ap, _∙_, subst}
-use mathlib.Core.Bool.{Bool, true, false}
+use mathlib.Core.Bool.{Bool, true, false, true≢false}
 use Prim.Native.Nat.{ℕ, _+_, _%_, _^_, _<_, _≤_}
 use native.Mathlib.Omega.{arith}
 use lib.Dec.{T}
@@ -11,12 +11,11 @@ use Rattle.model.specs.declared.End.{End}
 use Rattle.model.specs.declared.End.the-variants.{Never, At}
 use Rattle.model.specs.declared.Wait.{Wait}
 use Rattle.model.specs.declared.Wait.the-variants.{NoWait}
-use Rattle.model.specs.Waits.{wait-end}
+use Rattle.model.specs.Waits.{able, wait-end}
 use Rattle.model.specs.WellFormed.{ends-a-wait, ticks-left, EndAhead, ObjectInRange}
 use Rattle.parts.specs.Chains.{wait-chain}
-use Rattle.parts.specs.Tasks.{NamesChain, WaitSound, TaskSound}
+use Rattle.parts.specs.Tasks.{read-code, NamesChain, WaitSound, TaskSound}
 use Rattle.parts.specs.declared.Task.{Task}
-use Rattle.cells.specs.Tasks.{nowhere}
 
 -- ── End ticks ──
 
@@ -54,14 +53,13 @@ waits-not {counter} {standing} {b = b} e i =
     subst (λ (u : Wait). Whether (WaitSound counter standing u) b) (sym e)
     (is-map (λ z. record { stands = sym z; object-in-range = tt; end = tt }) (λ s. sym (s .stands)) i)
 
--- Nor does anybody wait at a data queue that there isn't.
-pub waits-nowhere : {counter standing : ℕ} {w : Wait} → w ≡ nowhere → Whether (WaitSound counter standing w) false
-waits-nowhere e = fails (λ s. subst ObjectInRange e (s .object-in-range))
+pub not-waiting : {w v : Wait} → w ≡ v → able v ≡ false → Whether (w ≡ NoWait) false
+not-waiting e f = fails (λ g. true≢false (sym (ap able g) ∙ ap able e ∙ f))
 
 -- ── Tasks ──
 
 module _ {counter priority standing : ℕ} {b : Bool} (x : Task) where
-  pub defined-task : x .defined ≡ true → Whether ((((1 ≤ priority) × (priority ≤ priority-limit)) × T (ends-a-wait (x .code))) × WaitSound counter standing (x .wait)) b
+  pub defined-task : x .defined ≡ true → Whether ((((1 ≤ priority) × (priority ≤ priority-limit)) × T (ends-a-wait (read-code (x .code)))) × WaitSound counter standing (x .wait)) b
       → Whether (TaskSound counter priority standing x) b
   defined-task d i =
       is-map

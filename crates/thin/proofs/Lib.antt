@@ -1,1 +1,4 @@
+pub mod Asked
+pub mod Entry
 pub mod Walk
+pub mod Staged

@@ -1,5 +1,6 @@
 // Reads recorded calls from standard input, plays each on the kernel and compares its answer with the recorded one. For each trace it prints
 // a line: how many records, how many of them differ, which is the first that does (0 for none), how many bytes are left behind the last.
+// The first sixteen traces of its stored input are document 01's sixteen runs: crates/traces/runs says which bytes those are.
 ghost use Prim.Native.Nat.{_+_, _≤_};
 use kernel::Kernel;
 use libc::STDIN_FILENO;
@@ -17,6 +18,10 @@ const RECORD: usize = 32;
 // A record with this call number is no call. It ends the trace before it and starts a new one, from the empty state with the counter of its
 // bytes 4 to 7. Document 02 doesn't have this: it is a convention of this program's input, so that one file holds several traces.
 const NEW_TRACE: u8 = 255;
+
+// Another convention: this number is no call either. The counter has to be that of bytes 4 to 7, which no answer gives (document 01, run 11, "the
+// second tick leaves 0").
+const LEAVES: u8 = 253;
 
 // ── Numbers ──
 
@@ -178,16 +183,12 @@ impl Trace {
         print(b"\n");
     }
 
-    // Plays one call and compares.
-    fn play(self, record: &[u8; RECORD]) -> Trace {
-        let start = self.state;
-        let done = step(start, call_of(record));
-        let state = done.state;
-        let answer = done.answer;
+    // One record more, which leaves this state. It differs where what it says isn't so.
+    fn counted(self, state: State, is_so: bool) -> Trace {
         let records = one_more(self.records);
         let mut differ = self.differ;
         let mut first = self.first;
-        if !is_answer(record, answer) {
+        if !is_so {
             differ = one_more(differ);
             if first == 0 {
                 first = records;
@@ -202,9 +203,28 @@ impl Trace {
         }
     }
 
+    // Plays one call and compares.
+    fn play(self, record: &[u8; RECORD]) -> Trace {
+        let start = self.state;
+        let done = step(start, call_of(record));
+        let state = done.state;
+        let answer = done.answer;
+        self.counted(state, is_answer(record, answer))
+    }
+
+    // Compares the counter.
+    fn see_counter(self, record: &[u8; RECORD]) -> Trace {
+        let state = self.state;
+        self.counted(state, state.counter == word_at(record, 4))
+    }
+
     // Takes one record. A trace that another follows has no bytes left over.
     fn take(self, record: &[u8; RECORD]) -> Trace {
-        if record[0] != NEW_TRACE {
+        let number = record[0];
+        if number == LEAVES {
+            return self.see_counter(record);
+        }
+        if number != NEW_TRACE {
             return self.play(record);
         }
         if self.begun {

@@ -1,4 +1,4 @@
--- A task's wait ends, at whatever place, and all waits of a wait queue end, from its head on: by the chain's removal and the task's new cell.
+-- A task's wait ends, at whatever place, and all waits of a wait queue end, from its head on: by the chain's removal and the task's new record.
 use mathlib.Core.Path.{_≡_, refl, sym, ap, _∙_}
 use mathlib.Core.Bool.{not}
 use mathlib.Core.List.{List, [], _∷_, headD, List·Memᴰ as In}
@@ -31,10 +31,8 @@ use Rattle.model.proofs.After.{after-end-wait, leads, leads-here}
 use Rattle.model.proofs.EndWaits.{standing-left, messages-left}
 use Rattle.model.proofs.KeptTasks.{Somewhere, waits-somewhere}
 use Rattle.parts.specs.Chains.{task-chains, chain-number, wait-chain}
-use Rattle.parts.specs.Tasks.{task-row}
+use Rattle.parts.specs.Tasks.{task-row, read-code, with-wait-ended}
 use Rattle.parts.specs.declared.Task.{Task}
-use Rattle.cells.specs.Tasks.{read-task}
-use Rattle.cells.specs.declared.TaskCells.{TaskCells}
 use Rattle.record.specs.declared.State.{State}
 use Rattle.record.specs.Meaning.{task-at, abs}
 use Rattle.record.specs.Sound.{Readable, Sound}
@@ -44,7 +42,7 @@ use Rattle.record.proofs.Rows.{passes-or-not, row-is}
 use Rattle.record.proofs.Chains.{chain-range, ChainOwner, chain-owner, named-chain}
 use Rattle.record.proofs.Standing.{stands-from}
 use Rattle.record.proofs.Laws.{with-task, with-waiting, counter-is}
-use Rattle.waits.proofs.Laws.{rows-of, end-ahead, becomes-sound, has-chain, standing-chain, some-head, chain-of-queue, nobody-waits, ended-cell, ended-row, wait-changed}
+use Rattle.waits.proofs.Laws.{rows-of, end-ahead, becomes-sound, has-chain, standing-chain, some-head, chain-of-queue, nobody-waits, ended-row, wait-changed}
 
 -- ── A wait ends ──
 
@@ -67,8 +65,8 @@ module _ {s : State} {t : ℕ} (a : Endable s t) where
       record { sound = R .waiting; low = rw (n .1) (r .0); high = rw (n .1) (r .1) }
 
   module _ {link : List ℕ} {n : ℕ} (p : Removed task-limit task-chains (wait-chain (task-at s t .wait)) t (s .waiting .link) link n) (code : Code) where
-    pub ended-all : (y : TaskCells) → read-task y ≡ ended-cell code 0 (task-at s t) → Ended s t code (with-task t y (with-waiting link s))
-    ended-all y e = record { becomes = one }
+    pub ended-all : (number : ℕ) → read-code number ≡ code → (y : Task) → y ≡ with-wait-ended number 0 (task-at s t) → Ended s t code (with-task t y (with-waiting link s))
+    ended-all number number-is y e = record { becomes = one }
       where
         wait-is : abs s .rows (task t) .wait ≡ task-at s t .wait
         wait-is = ap (λ (x : TaskRow). x .wait) (row-is s (task t) (a .valid-task))
@@ -79,7 +77,7 @@ module _ {s : State} {t : ℕ} (a : Endable s t) where
             let c : Changed task-limit task-chains (chain-number k) (s .waiting .link) link (without t (chain-list s (chain-number k))) = rw (n .1) at (p .changed) in
             rw (standing-chain s k (n .0))
             (wait-changed R k (n .0) link (without t (chain-list s (chain-number k))) c t (a .valid-task) y _ (ap (λ (x : Task). x .suspended) e)
-            (ap (λ (x : Task). task-row x (getD (s .waiting .key) t 0)) e ∙ (ended-row (task-at s t) _ (a .defined) code 0 ∙ ap (ended code 0) (sym (row-is s (task t) (a .valid-task))))))
+            (ap (λ (x : Task). task-row x (getD (s .waiting .key) t 0)) e ∙ (ended-row (task-at s t) _ (a .defined) number number-is 0 ∙ ap (ended code 0) (sym (row-is s (task t) (a .valid-task))))))
 
 -- In well-formed rows a task that waits stands where its wait says, so its wait can be ended.
 pub endable : {s : State} → Readable s → WellFormedRows (abs s .rows) → (t : ℕ) → T (valid (task t)) → T (not (able (abs s .rows (task t) .wait))) → Endable s t

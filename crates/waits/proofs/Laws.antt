@@ -16,16 +16,12 @@ use Rattle.model.specs.Waits.{wait-end, starting, ended, WaitQueue, object-of}
 use Rattle.model.specs.WellFormed.{EndAhead, WellFormedRows}
 use Rattle.model.specs.WaitQueues.{standing-in, set-standing}
 use Rattle.model.specs.declared.Code.{Code}
-use Rattle.model.specs.declared.Code.the-variants.{Ok as E-OK}
 use Rattle.model.specs.declared.Wait.{Wait}
 use Rattle.model.specs.declared.Wait.the-variants.{NoWait}
 use Rattle.parts.specs.Chains.{task-chains, chain-number, tasks-in}
-use Rattle.parts.specs.Tasks.{task-row}
+use Rattle.parts.specs.Tasks.{task-row, read-code, with-wait-ended, with-wait-started}
 use Rattle.parts.specs.declared.Task.{Task}
 use Rattle.parts.proofs.Empty.{chain-zero}
-use Rattle.cells.specs.Tasks.{read-task, write-task}
-use Rattle.cells.specs.declared.TaskCells.{TaskCells}
-use Rattle.cells.proofs.Faithful.{task-written}
 use Rattle.record.specs.declared.State.{State}
 use Rattle.record.specs.Meaning.{task-at, abs}
 use Rattle.record.specs.Sound.{Readable, Sound}
@@ -96,41 +92,31 @@ module _ {s : State} (S : Sound s) (k : WaitQueue) {t : ℕ} (i : In t (standing
   pub waiter-defined : T (task-at s t .defined)
   waiter-defined = waits-defined s t k waiter-valid (rows-of S .tasks t) (rows-of S .waiting .no-other t k i)
 
--- A task with its wait ended, and with a wait started.
-abbrev pub ended-cell : Code → ℕ → Task → Task
-ended-cell code word x = record { wait = NoWait; word = word; code = code; defined = x .defined; suspended = x .suspended }
-
-abbrev pub started-cell : Wait → Task → Task
-started-cell wait x = record { wait = wait; word = 0; code = E-OK; defined = x .defined; suspended = x .suspended }
-
--- Cells written from the task that was read.
-pub written-from : {x read : Task} {y : TaskCells} (change : Task → Task) → read ≡ x → y ≡ write-task (change read) → read-task y ≡ change x
-written-from change e f = task-written f ∙ ap change e
-
--- The rows of such cells, of a defined task.
+-- The rows of a defined task whose wait ended, with the number of this code, and of one whose wait starts.
 module _ (x : Task) (priority : ℕ) (d : T (x .defined)) where
-  pub ended-row : (code : Code) (word : ℕ) → task-row (ended-cell code word x) priority ≡ ended code word (task-row x priority)
-  ended-row code word = go (x .defined) d
+  pub ended-row : (number : ℕ) {code : Code} → read-code number ≡ code → (word : ℕ) → task-row (with-wait-ended number word x) priority ≡ ended code word (task-row x priority)
+  ended-row number {code} e word = go (x .defined) d
     where
-      go : (b : Bool) → T b → task-row (record { wait = NoWait; word = word; code = code; defined = b; suspended = x .suspended }) priority
+      go : (b : Bool) → T b → task-row (record { wait = NoWait; word = word; code = number; defined = b; suspended = x .suspended }) priority
           ≡ ended code word (task-row (record { wait = x .wait; word = x .word; code = x .code; defined = b; suspended = x .suspended }) priority)
-      go true t = refl
+      go true t = rw e refl
       go false t = absurd t
 
-  pub started-row : (wait : Wait) → task-row (started-cell wait x) priority ≡ starting wait (task-row x priority)
+  pub started-row : (wait : Wait) → task-row (with-wait-started wait x) priority ≡ starting wait (task-row x priority)
+  unfolding read-code
   started-row wait = go (x .defined) d
     where
-      go : (b : Bool) → T b → task-row (record { wait = wait; word = 0; code = E-OK; defined = b; suspended = x .suspended }) priority
+      go : (b : Bool) → T b → task-row (record { wait = wait; word = 0; code = 0; defined = b; suspended = x .suspended }) priority
           ≡ starting wait (task-row (record { wait = x .wait; word = x .word; code = x .code; defined = b; suspended = x .suspended }) priority)
       go true t = refl
       go false t = absurd t
 
 -- ── A wait queue and a task's row change ──
 
--- The chain of k became l and task t's cells y.
+-- The chain of k became l and task t's record y.
 module _ {s : State} (R : Readable s) (k : WaitQueue) (ok : T (valid (object-of k))) (link l : List ℕ)
-    (d : Changed task-limit task-chains (chain-number k) (s .waiting .link) link l) (t : ℕ) (valid-task : T (valid (task t))) (y : TaskCells) where
-  pub wait-changed : (row : TaskRow) → read-task y .suspended ≡ task-at s t .suspended → task-row (read-task y) (getD (s .waiting .key) t 0) ≡ row
+    (d : Changed task-limit task-chains (chain-number k) (s .waiting .link) link l) (t : ℕ) (valid-task : T (valid (task t))) (y : Task) where
+  pub wait-changed : (row : TaskRow) → y .suspended ≡ task-at s t .suspended → task-row y (getD (s .waiting .key) t 0) ≡ row
       → Becomes s (update same-key (task t) row (set-standing k l (abs s .rows))) (with-task t y (with-waiting link s))
   wait-changed row e f =
       let a = waiting-changed R k ok link l d in

@@ -1,4 +1,4 @@
--- The head of a wait queue is released, and a task joins one: by the chain's pop or insert, and the task's new cell.
+-- The head of a wait queue is released, and a task joins one: by the chain's pop or insert, and the task's new record.
 use mathlib.Core.Path.{_≡_, refl, sym, ap, _∙_, subst}
 use mathlib.Core.Bool.{Bool, true, false, cond}
 use mathlib.Core.List.{List, tail, List·Memᴰ as In, map}
@@ -21,10 +21,8 @@ use Rattle.model.proofs.Choices.{cond-yes}
 use Rattle.model.proofs.Tests.{from-within}
 use Rattle.model.proofs.WaitMoves.{defined-task}
 use Rattle.parts.specs.Chains.{task-chains, wait-chain, tasks-in}
-use Rattle.parts.specs.Tasks.{task-row}
+use Rattle.parts.specs.Tasks.{task-row, read-code, with-wait-ended, with-wait-started}
 use Rattle.parts.specs.declared.Task.{Task}
-use Rattle.cells.specs.Tasks.{read-task}
-use Rattle.cells.specs.declared.TaskCells.{TaskCells}
 use Rattle.record.specs.declared.State.{State}
 use Rattle.record.specs.Meaning.{task-at, abs}
 use Rattle.record.specs.Sound.{Sound}
@@ -34,9 +32,13 @@ use Rattle.record.proofs.Rows.{row-is}
 use Rattle.record.proofs.Standing.{stands-from}
 use Rattle.record.proofs.Keys.{priorities-are}
 use Rattle.record.proofs.Laws.{with-task, with-waiting}
-use Rattle.waits.proofs.Laws.{rows-of, has-chain, chain-of-queue, waiter-valid, waiter-defined, ended-cell, ended-row, wait-changed, started-cell, started-row}
+use Rattle.waits.proofs.Laws.{rows-of, has-chain, chain-of-queue, waiter-valid, waiter-defined, ended-row, wait-changed, started-row}
 
 -- ── The head is released ──
+
+read-ok : read-code 0 ≡ E-OK
+unfolding read-code
+read-ok = refl
 
 module _ {s : State} {chain : ℕ} (a : Releasable s chain) {link : List ℕ} {t : ℕ} (p : Popped task-limit task-chains chain (s .waiting .link) link t) where
   in-list : In t (chain-list s chain)
@@ -46,18 +48,18 @@ module _ {s : State} {chain : ℕ} (a : Releasable s chain) {link : List ℕ} {t
     in-k : In t (standing-in (abs s .rows) k)
     in-k = rw (chain-of-queue (a .on) k o) in-list
 
-    released-is : (word : ℕ) (y : TaskCells) → read-task y ≡ ended-cell E-OK word (task-at s t) → Becomes s (released k word (abs s .rows)) (with-task t y (with-waiting link s))
+    released-is : (word : ℕ) (y : Task) → y ≡ with-wait-ended 0 word (task-at s t) → Becomes s (released k word (abs s .rows)) (with-task t y (with-waiting link s))
     released-is word y e =
         let S = a .on .sound in
         let row : task-row (task-at s t) (getD (s .waiting .key) t 0) ≡ abs s .rows (task t) = sym (row-is s (task t) (waiter-valid S k in-k)) in
         rw (chain-of-queue (a .on) k o, ← p .first-is)
         (wait-changed (S .readable) k (o .valid-object) link (tail (chain-list s chain)) (rw (o .chain-is) (p .changed)) t (waiter-valid S k in-k) y _ (ap (λ (x : Task). x .suspended) e)
-        (ap (λ (x : Task). task-row x (getD (s .waiting .key) t 0)) e ∙ (ended-row (task-at s t) _ (waiter-defined S k in-k) E-OK word ∙ ap (ended E-OK word) row)))
+        (ap (λ (x : Task). task-row x (getD (s .waiting .key) t 0)) e ∙ (ended-row (task-at s t) _ (waiter-defined S k in-k) 0 (read-ok) word ∙ ap (ended E-OK word) row)))
 
   pub head-range : (1 ≤ t) × (t ≤ task-limit)
   head-range = list-range (has-chain (a .on)) in-list
 
-  pub released-all : (word : ℕ) (y : TaskCells) → read-task y ≡ ended-cell E-OK word (task-at s t) → Released s chain word (with-task t y (with-waiting link s))
+  pub released-all : (word : ℕ) (y : Task) → y ≡ with-wait-ended 0 word (task-at s t) → Released s chain word (with-task t y (with-waiting link s))
   released-all word y e = record { becomes = λ k o. released-is k o word y e }
 
 -- ── A task joins ──
@@ -106,13 +108,13 @@ module _ {s : State} {chain me : ℕ} (a : Joinable s chain me) where
           go true e = p .place-is ∙ rw (e, me-key, keys-are) refl
           go false e = p .at-the-end e ∙ (sym (ap length (chain-of-queue (a .on) k o)) ∙ simp length-map)
 
-      joined-is : (wait : Wait) (y : TaskCells) → read-task y ≡ started-cell wait (task-at s me) → Becomes s (joined ranked me k wait (abs s .rows)) (with-task me y (with-waiting link s))
+      joined-is : (wait : Wait) (y : Task) → y ≡ with-wait-started wait (task-at s me) → Becomes s (joined ranked me k wait (abs s .rows)) (with-task me y (with-waiting link s))
       joined-is wait y e =
           rw (← place-is, chain-of-queue (a .on) k o)
           (wait-changed (S .readable) k (o .valid-object) link (insert-at n me (chain-list s chain)) (rw (o .chain-is) (p .changed)) me me-valid y _ (ap (λ (x : Task). x .suspended) e)
           (ap (λ (x : Task). task-row x (getD (s .waiting .key) me 0)) e ∙ (started-row (task-at s me) _ me-defined wait ∙ ap (starting wait) (sym (row-is s (task me) me-valid)))))
 
-    pub joined-all : (wait : Wait) (y : TaskCells) → read-task y ≡ started-cell wait (task-at s me) → Joined s chain me ranked wait (record {
+    pub joined-all : (wait : Wait) (y : Task) → y ≡ with-wait-started wait (task-at s me) → Joined s chain me ranked wait (record {
       state = with-task me y (with-waiting link s);
       answer = waits n;
     })

@@ -128,6 +128,3 @@ pub record Cleared (k : WaitQueue) (code : Code) (s r : State) : Type 0 where
   pub no-one : standing-in (abs r .rows) k ≡ []
   pub others : (d : WaitQueue) → d ≢ k → standing-in (abs r .rows) d ≡ standing-in (abs s .rows) d
   pub messages : (b : ℕ) → abs r .rows (mailbox b) .messages ≡ abs s .rows (mailbox b) .messages
-
-pub record AllEnded (s : State) (chain : ℕ) (code : Code) (r : State) : Type 0 where
-  pub cleared : (k : WaitQueue) → ChainOf k chain → Cleared k code s r

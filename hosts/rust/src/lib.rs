@@ -101,8 +101,8 @@ pub const RECEIVING: u8 = 2;
 pub const AT_MAILBOX: u8 = 3;
 
 // A task's flags are a sum of these.
-pub const DEFINED: u8 = 1;
-pub const SUSPENDED: u8 = 2;
+pub const DEFINED: u32 = 1;
+pub const SUSPENDED: u32 = 2;
 
 #[repr(C)]
 #[derive(Clone, Copy, PartialEq, Eq, Debug)]
@@ -120,7 +120,7 @@ pub struct Task {
     pub timed: u8,
     /// Of the stored pair, without its minus sign.
     pub code: u8,
-    pub flags: u8,
+    pub flags: u32,
 }
 
 /// The stored words start at `words[head]` and go on, from the last place to the first.
@@ -131,6 +131,7 @@ pub struct Ring {
     pub head: u8,
     pub count: u8,
     pub capacity: u8,
+    pub spare: u8,
 }
 
 #[repr(C)]
@@ -140,6 +141,7 @@ pub struct Queue {
     /// 1 or 0.
     pub defined: u8,
     pub attribute: u8,
+    pub spare: u16,
 }
 
 #[repr(C)]
@@ -169,6 +171,9 @@ pub const HEADS_OF_MESSAGES: usize = 64;
 
 /// Entry n of each array belongs to number n, entry 0 to nobody. What a host writes here is taken as it is if the record is then sound; else every call
 /// of a known number answers E_SYS.
+///
+/// Every byte belongs to a field, so that records can be copied and compared as bytes. A field named `spare` says nothing: whatever it holds, the
+/// record means the same.
 #[repr(C)]
 #[derive(Clone, Copy, PartialEq, Eq, Debug)]
 pub struct Record {
@@ -180,6 +185,7 @@ pub struct Record {
     /// The messages that are queued, with the priorities kept for them.
     pub messages: Chains,
     pub mailboxes: [Mailbox; MAILBOXES + 1],
+    pub spare: u8,
 }
 
 // ── A call and its answer ──
@@ -277,19 +283,25 @@ impl Answer {
 
 // ── The layout: the library was compiled for these places ──
 
+const fn size_of_field<T, F>(_: fn(&T) -> &F) -> usize {
+    size_of::<F>()
+}
+
+// Fields whose sizes add up to their struct's leave no byte between or behind them.
 macro_rules! layout {
     ($type:ty, $size:literal, $align:literal, $($field:ident $offset:literal),+) => {
         const _: () = assert!(size_of::<$type>() == $size && align_of::<$type>() == $align);
         $(const _: () = assert!(offset_of!($type, $field) == $offset);)+
+        const _: () = assert!($(size_of_field(|whole: &$type| &whole.$field) +)+ 0 == $size);
     };
 }
 
 layout!(Task, 20, 4, word 0, end 4, sending 8, wait 12, object 13, timed 14, code 15, flags 16);
-layout!(Ring, 68, 4, words 0, head 64, count 65, capacity 66);
-layout!(Queue, 72, 4, ring 0, defined 68, attribute 69);
+layout!(Ring, 68, 4, words 0, head 64, count 65, capacity 66, spare 67);
+layout!(Queue, 72, 4, ring 0, defined 68, attribute 69, spare 70);
 layout!(Mailbox, 3, 1, defined 0, attribute 1, highest 2);
 layout!(Chains, 146, 1, link 0, key 81);
-layout!(Record, 2232, 4, counter 0, tasks 4, queues 664, waiting 1888, messages 2034, mailboxes 2180);
+layout!(Record, 2232, 4, counter 0, tasks 4, queues 664, waiting 1888, messages 2034, mailboxes 2180, spare 2231);
 layout!(Call, 32, 4, number 0, caller 4, locked 8, disabled 12, object 16, value 20, tmout 24, attribute 28);
 layout!(Answer, 24, 4, kind 0, code 4, place 8, a 12, b 16, c 20);
 
@@ -300,9 +312,7 @@ extern "C" {
     fn linguastel_record_size() -> usize;
     fn linguastel_record_align() -> usize;
     fn linguastel_empty(record: &mut Record);
-    fn linguastel_sound(record: &Record) -> bool;
-    fn linguastel_call(record: &mut Record, call: Call) -> Answer;
-    fn linguastel_tick(record: &mut Record) -> Answer;
+    fn linguastel_call(record: *mut Record, call: Call) -> Answer;
 }
 
 /// The record's size and alignment as the library has them, so that a host can see that it linked the library that this layout is for.
@@ -312,14 +322,17 @@ pub fn library_layout() -> (usize, usize) {
 }
 
 impl Record {
+    const RING: Ring = Ring { words: [0; WORDS], head: 0, count: 0, capacity: 0, spare: 0 };
+
     // What `empty` lends: the library writes over all of it.
     const ZEROS: Record = Record {
         counter: 0,
         tasks: [Task { word: 0, end: 0, sending: 0, wait: 0, object: 0, timed: 0, code: 0, flags: 0 }; TASKS + 1],
-        queues: [Queue { ring: Ring { words: [0; WORDS], head: 0, count: 0, capacity: 0 }, defined: 0, attribute: 0 }; QUEUES + 1],
+        queues: [Queue { ring: Record::RING, defined: 0, attribute: 0, spare: 0 }; QUEUES + 1],
         waiting: Chains { link: [0; 81], key: [0; 65] },
         messages: Chains { link: [0; 81], key: [0; 65] },
         mailboxes: [Mailbox { defined: 0, attribute: 0, highest: 0 }; MAILBOXES + 1],
+        spare: 0,
     };
 
     /// The record in which nothing is defined, at counter 0.
@@ -330,12 +343,15 @@ impl Record {
         record
     }
 
+    /// Whether the record is sound, whatever its bytes are: look, by caller 0 of task 0, is refused with E_SYS exactly where it isn't.
     pub fn is_sound(&self) -> bool {
-        // SAFETY: the reference is to a whole record of the layout above, which the function reads. Any bytes will do.
-        unsafe { linguastel_sound(self) }
+        let look = Call { number: number::LOOK, ..Call::default() };
+        // SAFETY: the pointer is to a whole record of the layout above. Of this call the function reads that record and writes nothing (the theorem
+        // `sound-by-call`). Any bytes will do.
+        unsafe { linguastel_call(core::ptr::from_ref(self).cast_mut(), look).code != E_SYS }
     }
 
-    /// One call; number 0 is the tick. A refused call changes no field.
+    /// One call; number 0 is the tick. A refused call writes nothing into the record, and neither do look, ref_dtq, ref_mbx and fetch.
     #[inline]
     pub fn call(&mut self, call: Call) -> Answer {
         // SAFETY: the reference is to a whole record of the layout above, and to nothing else; the function writes that record alone. Any bytes and any
@@ -343,10 +359,10 @@ impl Record {
         unsafe { linguastel_call(self, call) }
     }
 
+    /// The tick has no context. It is no function of the library: one that called the step from a second place would make both dearer.
     #[inline]
     pub fn tick(&mut self) -> Answer {
-        // SAFETY: as for `call`.
-        unsafe { linguastel_tick(self) }
+        self.call(Call { number: number::TICK, ..Call::default() })
     }
 }
 

@@ -1,8 +1,12 @@
-//! Tests the boundary between a host in Rust and the library: the layout, bad numbers, records that aren't sound, and hosts/runs through the wrapper.
-//! hosts/c/boundary.c is the same for C. A null or misaligned pointer is no `&mut Record`; noise in unused fields is left to the test in C.
+//! Tests the boundary between a host in Rust and the library: the layout, bad numbers, records that aren't sound, what calls write, and hosts/runs
+//! through the wrapper. hosts/c/boundary.c is the same for C. A null or misaligned pointer is no `&mut Record`; noise in unused fields is left to the
+//! test in C. Every byte of a record belongs to a field, so `==` compares all of them.
 use linguastel::*;
 use std::array::from_fn;
+use std::ffi::c_void;
+use std::hint::black_box;
 use std::mem::{align_of, size_of};
+use std::ptr::null_mut;
 
 // ── Records ──
 
@@ -26,13 +30,14 @@ impl Noise {
     }
 
     fn task(&mut self) -> Task {
-        let [wait, object, timed, code, flags] = self.bytes();
-        Task { word: self.word(), end: self.word(), sending: self.word(), wait, object, timed, code, flags }
+        let [wait, object, timed, code] = self.bytes();
+        Task { word: self.word(), end: self.word(), sending: self.word(), wait, object, timed, code, flags: self.word() }
     }
 
     fn queue(&mut self) -> Queue {
-        let [head, count, capacity, defined, attribute] = self.bytes();
-        Queue { ring: Ring { words: from_fn(|_| self.word()), head, count, capacity }, defined, attribute }
+        let [head, count, capacity, spare, defined, attribute] = self.bytes();
+        let ring = Ring { words: from_fn(|_| self.word()), head, count, capacity, spare };
+        Queue { ring, defined, attribute, spare: self.word() as u16 }
     }
 
     fn mailbox(&mut self) -> Mailbox {
@@ -52,6 +57,24 @@ impl Noise {
             waiting: self.chains(),
             messages: self.chains(),
             mailboxes: from_fn(|_| self.mailbox()),
+            spare: self.byte(),
+        }
+    }
+
+    fn below(&mut self, limit: u32) -> u32 {
+        (self.word() >> 8) % limit
+    }
+
+    /// Few tasks, objects and messages, so that they meet.
+    fn call(&mut self) -> Call {
+        Call {
+            number: self.below(number::FETCH + 1),
+            caller: self.below(8),
+            object: 1 + self.below(4),
+            value: self.below(17),
+            attribute: self.below(4),
+            tmout: self.below(8) as i32 - 1,
+            ..Call::default()
         }
     }
 }
@@ -85,6 +108,63 @@ fn typical() -> Record {
 /// Refused with this code: no place, no words.
 fn refusal(code: i32) -> Answer {
     Answer { kind: 0, code, place: 0, a: 0, b: 0, c: 0 }
+}
+
+// ── A record that may only be read ──
+
+extern "C" {
+    fn mmap(at: *mut c_void, size: usize, access: i32, kind: i32, file: i32, offset: i64) -> *mut c_void;
+    fn mprotect(at: *mut c_void, size: usize, access: i32) -> i32;
+    fn munmap(at: *mut c_void, size: usize) -> i32;
+}
+
+// Linux on x86-64 has these numbers.
+const PAGE: usize = 4096;
+const NO_ACCESS: i32 = 0;
+const READ: i32 = 1;
+const READ_AND_WRITE: i32 = 3;
+const PRIVATE_AND_OF_NO_FILE: i32 = 0x22;
+
+/// A page between two that may not even be read. Who writes into it while it may only be read, or touches one of those, ends the program by a signal;
+/// hosts/c/boundary.c shows that a call that writes is caught so.
+struct Page(*mut c_void);
+
+impl Page {
+    fn new() -> Page {
+        // SAFETY: new memory, in a place that the system chooses.
+        let pages = unsafe { mmap(null_mut(), 3 * PAGE, NO_ACCESS, PRIVATE_AND_OF_NO_FILE, -1, 0) };
+        assert_ne!(pages as isize, -1);
+        Page(pages.wrapping_byte_add(PAGE))
+    }
+
+    fn allow(&self, access: i32) {
+        // SAFETY: the page is this one's own, and nobody holds a reference into it.
+        assert_eq!(unsafe { mprotect(self.0, PAGE, access) }, 0);
+    }
+
+    /// The call on a copy of the record that may only be read, at the page's start or at its end. The kernel's promise is that it reads alone.
+    fn call(&self, record: &Record, at_end: bool, call: Call) -> Answer {
+        let lent: *mut Record = self.0.wrapping_byte_add(if at_end { PAGE - size_of::<Record>() } else { 0 }).cast();
+        self.allow(READ_AND_WRITE);
+        // SAFETY: the place is aligned, in the page, and may be written.
+        unsafe { lent.write(*record) };
+        self.allow(READ);
+        // SAFETY: a whole record is there, and this is the only reference to it.
+        unsafe { &mut *lent }.call(call)
+    }
+}
+
+impl Drop for Page {
+    fn drop(&mut self) {
+        // SAFETY: the three pages of `new`, which nobody uses any more.
+        unsafe { munmap(self.0.wrapping_byte_sub(PAGE), 3 * PAGE) };
+    }
+}
+
+fn assert_writes_nothing(page: &Page, record: &Record, call: Call, expected: Answer, what: &str) {
+    for at_end in [false, true] {
+        assert_eq!(page.call(record, at_end, call), expected, "{what}");
+    }
 }
 
 // ── Layout and numbers ──
@@ -134,12 +214,12 @@ fn callers_and_objects_that_nobody_has() {
 
 #[test]
 fn unknown_numbers() {
-    for start in [typical(), noise().record()] {
-        let mut record = start;
+    let page = Page::new();
+    for record in [typical(), noise().record()] {
         for number in [24, 255, 256, 257, 279, u32::MAX] {
-            assert_eq!(record.call(Call { number, caller: 77, locked: 1, ..Call::default() }), refusal(E_PAR));
+            let call = Call { number, caller: 77, locked: 1, ..Call::default() };
+            assert_writes_nothing(&page, &record, call, refusal(E_PAR), "unknown number");
         }
-        assert_eq!(record, start);
     }
 }
 
@@ -154,22 +234,20 @@ fn locked_and_disabled_as_numbers() {
 
 // ── Records that aren't sound ──
 
-/// Every call of a known number, and the tick, is refused and changes nothing.
-fn assert_unsound(start: Record, what: &str) {
-    let mut record = start;
+/// Every call of a known number is refused and writes nothing; number 0 is the tick.
+fn assert_unsound(page: &Page, record: &Record, what: &str) {
     assert!(!record.is_sound(), "{what}");
-    for number in 0..=number::FETCH {
-        assert_eq!(record.call(Call { value: 1, ..Call::new(number, Context::HANDLER, 1) }), refusal(E_SYS), "{what}");
+    for number in number::TICK..=number::FETCH {
+        let call = Call { value: 1, ..Call::new(number, Context::HANDLER, 1) };
+        assert_writes_nothing(page, record, call, refusal(E_SYS), what);
     }
-    assert_eq!(record.tick(), refusal(E_SYS), "{what}");
-    assert_eq!(record, start, "{what}");
 }
 
 #[test]
 fn random_bytes() {
-    let mut noise = noise();
+    let (page, mut noise) = (Page::new(), noise());
     for _ in 0..50 {
-        assert_unsound(noise.record(), "random bytes");
+        assert_unsound(&page, &noise.record(), "random bytes");
     }
 }
 
@@ -191,11 +269,106 @@ const FAULTS: [Fault; 11] = [
 
 #[test]
 fn records_with_one_fault() {
+    let page = Page::new();
     assert!(typical().is_sound());
     for (what, spoil) in FAULTS {
         let mut record = typical();
         spoil(&mut record);
-        assert_unsound(record, what);
+        assert_unsound(&page, &record, what);
+    }
+}
+
+/// A task's flags are 0, 1 or 3, in all of their 32 bits.
+#[test]
+fn damaged_flags() {
+    let page = Page::new();
+    for task in 1..=TASKS {
+        for flags in [2, 4, 5, 255, 256, 257, 0x0001_0001, 0x0003_0000, 0x0100_0001, 0x0300_0000, 0x8000_0001, u32::MAX - 1, u32::MAX] {
+            let mut record = typical();
+            record.tasks[task].flags = flags;
+            assert_unsound(&page, &record, "damaged flags");
+        }
+    }
+}
+
+// ── What calls write ──
+
+/// The typical record with a data queue of capacity 0, a suspended task, and tasks 5 to 7 whose waits ended.
+fn various() -> Record {
+    let mut record = typical();
+    record.icre_dtq(3, TA_TFIFO, 0);
+    record.icre_dtq(4, TA_TFIFO, 1);
+    record.isus_tsk(2);
+    for task in 5..=7 {
+        record.idefine_task(task, 1);
+        record.trcv_dtq(Context::task(task), 4, if task == 6 { 1 } else { FOREVER });
+    }
+    record.irel_wai(5);
+    record.tick();
+    record.del_dtq(Context::task(3), 4);
+    record
+}
+
+/// Calls that change nothing, with their codes: refused ones, then those that only read.
+fn without_change() -> [(i32, Call); 24] {
+    let by_handler = |number, object| Call::new(number, Context::HANDLER, object);
+    let by_task = |task, number, object| Call::new(number, Context::task(task), object);
+    [
+        (E_PAR, by_handler(number::FETCH + 1, 0)),
+        (E_SYS, by_task(33, number::REF_DTQ, 1)),
+        (E_SYS, by_task(1, number::SND_DTQ, 1)),
+        (E_CTX, Call { locked: 1, ..by_task(3, number::PSND_DTQ, 1) }),
+        (E_CTX, by_handler(number::RCV_DTQ, 1)),
+        (E_ID, by_handler(number::PSND_DTQ, 17)),
+        (E_PAR, Call { value: 17, ..by_handler(number::CRE_DTQ, 5) }),
+        (E_PAR, Call { tmout: -2, ..by_task(3, number::TRCV_DTQ, 1) }),
+        (E_NOEXS, by_handler(number::FSND_DTQ, 4)),
+        (E_PAR, Call { value: 1, attribute: 10, ..by_handler(number::SND_MBX, 2) }),
+        (E_OBJ, Call { value: 33, attribute: 1, ..by_handler(number::SND_MBX, 2) }),
+        (E_OBJ, Call { value: 5, ..by_handler(number::DEFINE_TASK, 3) }),
+        (E_OBJ, by_handler(number::FETCH, 1)),
+        (E_QOVR, by_handler(number::SUS_TSK, 2)),
+        (E_ILUSE, by_handler(number::FSND_DTQ, 3)),
+        (E_TMOUT, by_handler(number::PSND_DTQ, 2)),
+        (E_TMOUT, by_task(3, number::TRCV_MBX, 1)),
+        (E_OK, by_handler(number::LOOK, 1)),
+        (E_OK, by_handler(number::REF_DTQ, 2)),
+        (E_OK, by_handler(number::REF_MBX, 2)),
+        (E_OK, by_handler(number::FETCH, 3)),
+        (E_RLWAI, by_handler(number::FETCH, 5)),
+        (E_TMOUT, by_handler(number::FETCH, 6)),
+        (E_DLT, by_handler(number::FETCH, 7)),
+    ]
+}
+
+#[test]
+fn calls_that_write_nothing() {
+    let page = Page::new();
+    for (code, call) in without_change() {
+        let mut record = various();
+        let answer = record.call(call);
+        assert_eq!((answer.outcome(), record), (Outcome::Finished(code), various()), "{call:?}");
+        assert_writes_nothing(&page, &record, call, answer, "a call that changes nothing");
+    }
+}
+
+/// Leaves this number all over the stack below the caller, where the next call has its locals; a call uses less than half of that.
+#[inline(never)]
+fn paint_stack(number: u64) {
+    black_box(&[number; 8192]);
+}
+
+/// The same calls on two records, with other bytes on the stack: what a call leaves in a record doesn't come from there.
+#[test]
+fn bytes_of_the_stack() {
+    let mut noise = noise();
+    let (mut record, mut twin) = (typical(), typical());
+    for _ in 0..20_000 {
+        let call = noise.call();
+        paint_stack(0x1111_1111_1111_1111);
+        let answer = record.call(call);
+        paint_stack(0xeeee_eeee_eeee_eeee);
+        assert_eq!((twin.call(call), twin), (answer, record), "{call:?}");
     }
 }
 
@@ -311,7 +484,7 @@ fn answer_text(answer: Answer) -> String {
     format!("{outcome} {} {} {}", answer.a, answer.b, answer.c)
 }
 
-fn play_line(record: &mut Record, way: Way, fields: &[&str]) {
+fn play_line(page: &Page, record: &mut Record, way: Way, fields: &[&str]) {
     let number = |field: usize| fields[field].parse().unwrap();
     match fields[3] {
         "from" => record.counter = number(5),
@@ -330,7 +503,11 @@ fn play_line(record: &mut Record, way: Way, fields: &[&str]) {
             let before = *record;
             let answer = way(record, call);
             assert_eq!(answer_text(answer), fields[8..].join(" "), "{call:?}");
-            assert!(answer.code == E_OK || *record == before, "{call:?}");
+            let reads = matches!(call.number, number::REF_DTQ | number::REF_MBX | number::LOOK | number::FETCH);
+            if reads || answer.code != E_OK {
+                assert_eq!(*record, before, "{call:?}");
+                assert_writes_nothing(page, &before, call, answer, "a line of a run");
+            }
         }
     }
 }
@@ -339,6 +516,7 @@ type Way = fn(&mut Record, Call) -> Answer;
 
 /// The text has this many runs beside run 0.
 fn play(text: &str, runs: &str) {
+    let page = Page::new();
     for way in [Record::call as Way, call_by_name, call_by_i_form] {
         let mut start = Record::empty();
         let (mut run, mut record) = ("0", start);
@@ -347,7 +525,7 @@ fn play(text: &str, runs: &str) {
             if fields[0] != run {
                 (run, record) = (fields[0], start);
             }
-            play_line(if run == "0" { &mut start } else { &mut record }, way, &fields);
+            play_line(&page, if run == "0" { &mut start } else { &mut record }, way, &fields);
         }
         assert_eq!(run, runs);
     }

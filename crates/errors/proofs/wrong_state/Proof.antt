@@ -5,6 +5,9 @@ use Rattle.errors.proofs.Laws.{seen-by-resume}
 use Rattle.errors.proofs.wrong_state.Statement.{statement}
 use Rattle.errors.proofs.wrong_state.Tie as tie
 
+able-requires : tie.Need-able-requires
+able-requires c κs = search needs
+
 creates-requires : tie.Need-creates-requires
 creates-requires c κs = search needs
 
@@ -18,14 +21,15 @@ returns : tie.Need-returns
 unfolding wrong-state
 returns c v shows =
     simp (
-      c .before .before .before .before .before .before .creates .ensures,
-      c .before .before .before .before .before .exists .ensures v shows,
-      c .before .before .before .before .names-message .ensures,
+      c .before .before .before .before .before .able .ensures,
+      c .before .before .before .before .creates .ensures,
+      c .before .before .before .exists .ensures v shows,
+      c .before .before .names-message .ensures,
       shows .free,
-      shows .task .able,
+      shows .task .wait,
       seen-by-resume (c .before .before .before .before .before .before .before .args .call) shows,
     )
 
 pub wrong-state-spec : {M : Type 1} → statement M
 wrong-state-spec =
-    tie.close (tie.spec creates-requires exists-requires names-message-requires returns)
+    tie.close (tie.spec able-requires creates-requires exists-requires names-message-requires returns)

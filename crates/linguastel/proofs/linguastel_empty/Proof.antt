@@ -34,38 +34,37 @@ use denote.Triple.Spec.{Meets, tripleOf}
 use denote.Triple.Table.{entered, cited}
 use denote.Triple.Walked.{says, Stays, stay-ref, walkOf, AllGo, goes-ref, Walks, ends-at, walked, walk-meets}
 use Rattle.model.specs.Rows.{empty-state}
-use Rattle.record.specs.declared.State.{State}
-use Rattle.record.specs.Meaning.{abs}
-use Rattle.record.specs.Sound.{Sound}
-use Rattle.record.proofs.State as T
-use Rattle.record.proofs.State.Laws as T′
-use Rattle.record.proofs.State.empty as empty
-use Rattle.record.proofs.State.empty.Symbol as empty-def
-use Rattle.record.proofs.State.empty.Symbol.{name as #empty}
-use Rattle.record.proofs.State.empty.Met as empty-thm
+use Rattle.host_record.specs.declared.HostRecord.{HostRecord}
+use Rattle.host_record.specs.Record.{HostSound, meaning}
+use Rattle.host_record.proofs.HostRecord as T
+use Rattle.host_record.proofs.HostRecord.Laws as T′
+use Rattle.host_record.proofs.empty as empty
+use Rattle.host_record.proofs.empty.Symbol as empty-def
+use Rattle.host_record.proofs.empty.Symbol.{name as #empty}
+use Rattle.host_record.proofs.empty.Met as empty-thm
 use Rattle.linguastel.proofs.linguastel_empty.Key.{name as #made}
 use Rattle.linguastel.proofs.linguastel_empty as f
 use Rattle.linguastel.proofs.linguastel_empty.Statement as stated
 use Rattle.linguastel.proofs.linguastel_empty.Code as code
 
 abbrev Arg : Type 0
-Arg = RefT State × Unit {0}
+Arg = RefT HostRecord × Unit {0}
 
 abbrev stayed : Stays (f.ended .signature .params) (f.ended .kept)
 stayed = (stay-ref (0 ∷ []) tt (plain (λ _. T.the-row)), tt)
 
-abbrev Empty : State → Type 0
-Empty r = Sound r × (abs r ≡ empty-state 0)
+abbrev Empty : HostRecord → Type 0
+Empty r = HostSound r × (meaning r ≡ empty-state 0)
 
 module _ {M : Type 1} (𝓤 : URA M) (H : Heap 𝓤) (A : Atoms 𝓤) (at-mem : Memory → SProp 𝓤) (run : Routine → Fun 𝓤) where
   -- the contract that the proof cites
   abbrev ByValue : Contract 𝓤
   ByValue = tripleOf 𝓤 H A empty.signature (empty.spec 𝓤 H A at-mem run)
 
-  empty-of : (r : State) → ent 𝓤 (ensured 𝓤 H A empty.ended (empty.clauses 𝓤 H A at-mem run) tt tt tt r) (fact 𝓤 (Empty r))
+  empty-of : (r : HostRecord) → ent 𝓤 (ensured 𝓤 H A empty.ended (empty.clauses 𝓤 H A at-mem run) tt tt tt r) (fact 𝓤 (Empty r))
   empty-of r = exE 𝓤 _ (λ ws. snd∗ 𝓤 (sem 𝓤 H A (lasts empty.ended tt tt ws)) (fact 𝓤 (Empty r)))
 
-module _ {M : Type 1} (𝓤 : URA M) (H : Heap 𝓤) (A : Atoms 𝓤) (W : Given 𝓤 H A) (at-mem : Memory → SProp 𝓤) (run : Routine → Fun 𝓤) (κ : Lft) (q : Share) (b o : ℕ) (γ : GName) (h : State) where
+module _ {M : Type 1} (𝓤 : URA M) (H : Heap 𝓤) (A : Atoms 𝓤) (W : Given 𝓤 H A) (at-mem : Memory → SProp 𝓤) (run : Routine → Fun 𝓤) (κ : Lft) (q : Share) (b o : ℕ) (γ : GName) (h : HostRecord) where
   abbrev x : Arg
   x = (record { ptr = (b, o); name = γ; now = h }, tt)
 
@@ -81,7 +80,7 @@ module _ {M : Type 1} (𝓤 : URA M) (H : Heap 𝓤) (A : Atoms 𝓤) (W : Given
   goes-empty : ent 𝓤 (sem 𝓤 H A ftrue) (ByValue 𝓤 H A at-mem run .pre to-empty)
   goes-empty = qed W (‵ ftrue ∷ []) ∵ nothing ! $ join ! $ frame ! $ done !
 
-  exits : (r : State) → Empty r → ent 𝓤 (⋆ 𝓤 H A (‵ (fobs γ (T.the-row .coded .code r)) ∷ ‵ (fbor κ (Body (mem T.the-row) b o γ)) ∷ ‵ (flft κ q) ∷ [])) (Post vunit)
+  exits : (r : HostRecord) → Empty r → ent 𝓤 (⋆ 𝓤 H A (‵ (fobs γ (T.the-row .coded .code r)) ∷ ‵ (fbor κ (Body (mem T.the-row) b o γ)) ∷ ‵ (flft κ q) ∷ [])) (Post vunit)
   exits r e =
       qed W (‵ (fobs γ (T.the-row .coded .code r)) ∷ ‵ (fbor κ (Body (mem T.the-row) b o γ)) ∷ ‵ (flft κ q) ∷ []) ∵
       suffices ! _ (ends-at 𝓤 H A f.ended stayed (f.clauses 𝓤 H A at-mem run) W (((κ, tt), (q, tt), tt, x, at), tt) vunit tt (r, tt) (tt, tt)) $
@@ -101,7 +100,7 @@ module _ {M : Type 1} (𝓤 : URA M) (H : Heap 𝓤) (A : Atoms 𝓤) (W : Given
         -- [the record's cell; what a record owns; the open borrow; obs; auth; room for _2; …; _1; …; room for _0; …]
         nothing ! $ use1 W (raw (ByValue 𝓤 H A at-mem run .pre to-empty)) goes-empty $
         calls-at ! fm (ByValue 𝓤 H A at-mem run) known to-empty (no-more !) (λ v.
-        use1 W (later (some (λ (r : State). (‵ ftrue ⊛ ‵ (T.the-row .own r (v ∷ []))) ⊛ raw (ensured 𝓤 H A empty.ended (empty.clauses 𝓤 H A at-mem run) tt tt tt r)))) (id⊢ 𝓤 _) $ await ! tt $ pick ! (λ r.
+        use1 W (later (some (λ (r : HostRecord). (‵ ftrue ⊛ ‵ (T.the-row .own r (v ∷ []))) ⊛ raw (ensured 𝓤 H A empty.ended (empty.clauses 𝓤 H A at-mem run) tt tt tt r)))) (id⊢ 𝓤 _) $ await ! tt $ pick ! (λ r.
         split ! $ move ! (1 ∷ []) $ use1 W (raw (fact 𝓤 (Empty r))) (empty-of 𝓤 H A at-mem run r) $ heard ! (Empty r) (λ e. split ! $ drop ! $
         peeks ! T.the-row (Is T.the-row) (shows 𝓤 H A T.the-row) r (v ∷ []) (λ is.
         -- [what the new record owns; the record's cell; what the old record owns; the open borrow; obs; auth; room for _2; …; _1; …; room for _0; …]
@@ -134,4 +133,4 @@ linguastel-empty-spec 𝓤 H 𝓜 𝓖 𝓡 =
     entered 𝓤 H (tripleOf 𝓤 H (𝓖 .A) f.signature (f.spec 𝓤 H (𝓖 .A) (𝓜 .mem) (𝓡 .run)))
     (tables 𝓤 H 𝓜 𝓡 code.env .C) (tables 𝓤 H 𝓜 𝓡 code.env .Λ) #made code.function (code.unfolded 𝓤 H 𝓜 𝓡)
     (meets 𝓤 H (𝓖 .A) (givenOf 𝓤 H 𝓜 𝓖) (𝓜 .mem) (𝓡 .run) (tablesOf 𝓤 H 𝓜 (tables 𝓤 H 𝓜 𝓡 code.env))
-    (cited 𝓤 H (ByValue 𝓤 H (𝓖 .A) (𝓜 .mem) (𝓡 .run)) 𝓜 𝓡 code.env #empty empty-def.routine code.calls-record·State·empty (empty-thm.met 𝓤 H 𝓜 𝓖 𝓡)))
+    (cited 𝓤 H (ByValue 𝓤 H (𝓖 .A) (𝓜 .mem) (𝓡 .run)) 𝓜 𝓡 code.env #empty empty-def.routine code.calls-host-record·empty (empty-thm.met 𝓤 H 𝓜 𝓖 𝓡)))

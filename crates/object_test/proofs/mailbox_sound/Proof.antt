@@ -22,7 +22,7 @@ returns : tie.Need-returns
 returns c =
     let numbers = c .before in
     let taken = numbers .before in
-    let heads = taken .before in
+    let heads = taken .before .before in
     let start = heads .before .before in
     defined-mailbox (start .args .mailbox) (start .pre) (heads .before .first .ensures) (heads .first2 .ensures) (taken .if1 .taken)
     (stops (numbers .mailbox-numbers-sound .ensures) (c .if2 .taken))
@@ -31,20 +31,20 @@ returns-2 : tie.Need-returns-2
 returns-2 c =
     let numbers = c .before .before in
     let taken = numbers .before in
-    let heads = taken .before in
+    let heads = taken .before .before in
     let start = heads .before .before in
     defined-mailbox (start .args .mailbox) (start .pre) (heads .before .first .ensures) (heads .first2 .ensures) (taken .if1 .taken)
     (goes-on (numbers .mailbox-numbers-sound .ensures) (c .before .if2 .left) (stops (is-or (is-eqb _ _) (is-eqb _ _)) (c .if3 .taken)))
 
 in-order-if-requires : tie.Need-in-order-if-requires
-in-order-if-requires c κs = (search needs, c .before .before .before .before .before .before .pre .keys-count)
+in-order-if-requires c κs = (search needs, c .before .before .before .before .before .before .before .pre .keys-count)
 
 returns-3 : tie.Need-returns-3
 returns-3 c =
     let waits = c .before .before in
     let numbers = waits .before .before in
     let taken = numbers .before in
-    let heads = taken .before in
+    let heads = taken .before .before in
     let start = heads .before .before in
     defined-mailbox (start .args .mailbox) (start .pre) (heads .before .first .ensures) (heads .first2 .ensures) (taken .if1 .taken)
     (goes-on (numbers .mailbox-numbers-sound .ensures) (waits .before .if2 .left)
@@ -59,7 +59,7 @@ returns-4 c =
     let waits = order .before in
     let numbers = waits .before .before in
     let taken = numbers .before in
-    let heads = taken .before in
+    let heads = taken .before .before in
     let start = heads .before .before in
     defined-mailbox (start .args .mailbox) (start .pre) (heads .before .first .ensures) (heads .first2 .ensures) (taken .if1 .taken)
     (goes-on (numbers .mailbox-numbers-sound .ensures) (waits .before .if2 .left)
@@ -67,9 +67,9 @@ returns-4 c =
 
 returns-5 : tie.Need-returns-5
 returns-5 c =
-    let heads = c .before in
+    let heads = c .before .before .before in
     let start = heads .before .before in
-    undefined-mailbox (start .args .mailbox) (start .pre) (heads .before .first .ensures) (heads .first2 .ensures) (c .if1 .left) (is-and (is-eqb _ _) (is-eqb _ _))
+    undefined-mailbox (start .args .mailbox) (start .pre) (heads .before .first .ensures) (heads .first2 .ensures) (c .before .if1 .left) (is-and (is-and (is-eqb _ _) (is-eqb _ _)) (is-eqb _ _))
 
 pub mailbox-sound-spec : {M : Type 1} → statement M
 mailbox-sound-spec =

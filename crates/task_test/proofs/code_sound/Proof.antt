@@ -1,5 +1,5 @@
 -- `code_sound` is exact: its tests are of the numbers of the codes that a wait ends with.
-use Rattle.cells.proofs.Reading.{ends-by-number}
+use Rattle.parts.proofs.Codes.{ends-by-number}
 use Rattle.task_test.proofs.code_sound.Statement.{statement}
 use Rattle.task_test.proofs.code_sound.Tie as tie
 

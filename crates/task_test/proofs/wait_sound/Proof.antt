@@ -1,18 +1,17 @@
--- `wait_sound` is exact: by what the wait's cells are read as, of which three name an object.
+-- `wait_sound` is exact: by the cases of the wait, of which three name an object.
 use mathlib.Core.Path.{refl}
 use native.Mathlib.Omega.{arith}
-use borrow.Author.Needs.{needs}
 use Rattle.lists.proofs.Tests.{is-and, is-eqb}
-use Rattle.cells.proofs.Reading.{reads-no-wait, reads-nowhere, reads-sending, reads-receiving, reads-at-mailbox}
-use Rattle.task_test.proofs.Tasks.{waits-at, waits-not, waits-nowhere}
+use Rattle.task_test.proofs.Tasks.{waits-at, waits-not}
+use borrow.Author.Needs.{needs}
 use Rattle.task_test.proofs.wait_sound.Statement.{statement}
 use Rattle.task_test.proofs.wait_sound.Tie as tie
 
-returns : tie.Need-returns
-returns c = waits-not (reads-no-wait _ (c .if1 .taken)) (is-eqb _ _)
+enum-told : tie.Need-enum-told
+enum-told c = search needs
 
-returns-2 : tie.Need-returns-2
-returns-2 c = waits-nowhere (reads-nowhere _ (c .before .if1 .left) (c .if2 .taken))
+enum-known-wait : tie.Need-enum-known-wait
+enum-known-wait c = search needs
 
 names-chain-requires : tie.Need-names-chain-requires
 names-chain-requires c κs = search needs
@@ -20,10 +19,8 @@ names-chain-requires c κs = search needs
 end-sound-requires : tie.Need-end-sound-requires
 end-sound-requires c κs = search needs
 
-returns-3 : tie.Need-returns-3
-returns-3 c =
-    let kind = c .before .before in
-    waits-at _ 0 _ (reads-sending _ (kind .before .before .if1 .left) (kind .before .if2 .left) (kind .if3 .taken)) (omega arith) refl (is-and (c .before .names-chain .ensures) (c .end-sound .ensures))
+enum-known-wait-2 : tie.Need-enum-known-wait-2
+enum-known-wait-2 c = search needs
 
 cast-names-chain : tie.Need-cast-names-chain
 cast-names-chain c = search needs
@@ -34,11 +31,8 @@ names-chain-requires-2 c κs = search needs
 end-sound-requires-2 : tie.Need-end-sound-requires-2
 end-sound-requires-2 c κs = search needs
 
-returns-4 : tie.Need-returns-4
-returns-4 c =
-    let kind = c .before .before in
-    let within = kind .before .before in
-    waits-at _ 16 _ (reads-receiving _ (within .before .if1 .left) (within .if2 .left) (kind .before .if3 .left) (kind .if4 .taken)) refl refl (is-and (c .before .names-chain2 .ensures) (c .end-sound2 .ensures))
+enum-known-wait-3 : tie.Need-enum-known-wait-3
+enum-known-wait-3 c = search needs
 
 cast-names-chain-2 : tie.Need-cast-names-chain-2
 cast-names-chain-2 c = search needs
@@ -49,26 +43,35 @@ names-chain-requires-3 c κs = search needs
 end-sound-requires-3 : tie.Need-end-sound-requires-3
 end-sound-requires-3 c κs = search needs
 
-returns-5 : tie.Need-returns-5
-returns-5 c =
-    let kind = c .before .before in
-    let within = kind .before .before in
-    waits-at _ 32 _ (reads-at-mailbox _ (within .before .if1 .left) (within .if2 .left) (kind .before .if3 .left) (kind .if4 .left)) refl refl (is-and (c .before .names-chain3 .ensures) (c .end-sound3 .ensures))
+returns : tie.Need-returns
+returns c = waits-not (c .enum-told .given .1) (is-eqb _ _)
+
+returns-2 : tie.Need-returns-2
+returns-2 c = waits-at _ 0 _ (c .before .before .before .wait .given .1) (omega arith) refl (is-and (c .before .names-chain .ensures) (c .end-sound .ensures))
+
+returns-3 : tie.Need-returns-3
+returns-3 c = waits-at _ 16 _ (c .before .before .before .wait2 .given .1) refl refl (is-and (c .before .names-chain2 .ensures) (c .end-sound2 .ensures))
+
+returns-4 : tie.Need-returns-4
+returns-4 c = waits-at _ 32 _ (c .before .before .before .wait3 .given .1) refl refl (is-and (c .before .names-chain3 .ensures) (c .end-sound3 .ensures))
 
 pub wait-sound-spec : {M : Type 1} → statement M
 wait-sound-spec =
     tie.close
     (tie.spec
-    returns
-    returns-2
+    enum-told
+    enum-known-wait
     names-chain-requires
     end-sound-requires
-    returns-3
+    enum-known-wait-2
     cast-names-chain
     names-chain-requires-2
     end-sound-requires-2
-    returns-4
+    enum-known-wait-3
     cast-names-chain-2
     names-chain-requires-3
     end-sound-requires-3
-    returns-5)
+    returns
+    returns-2
+    returns-3
+    returns-4)

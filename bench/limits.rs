@@ -1,0 +1,481 @@
+//! What bench/limits runs. Every call, accepted in each of its ways and refused, is played on the proved library and on the kernel in Rust: on a typical
+//! record, on a full one, and where the most is to be done. For each it prints the copies that one call makes with memcpy and memmove, and the stack that
+//! it takes. It fails where the library is above a limit, or the two answer differently.
+#[allow(dead_code)]
+mod cycles;
+
+use cycles::*;
+use linguastel::number::*;
+use linguastel::*;
+use std::fmt::Display;
+use std::hint::black_box;
+use std::process::exit;
+use std::sync::OnceLock;
+
+// Bytes, for any call.
+const STACK_LIMIT: usize = 9_216;
+const COPIED_LIMIT: usize = 12 * size_of::<Record>();
+
+// ── One call, measured ──
+
+type Entry = unsafe extern "C" fn(&mut Record, Call) -> Answer;
+
+#[repr(C)]
+struct Copied {
+    whole: usize,
+    bytes: usize,
+}
+
+extern "C" {
+    fn linguastel_call(record: &mut Record, call: Call) -> Answer;
+    // Of copies.c and stack.c.
+    fn copied_so_far() -> Copied;
+    fn stack_written(play: extern "C" fn(&mut Job), job: &mut Job) -> usize;
+}
+
+extern "C" fn rust_call(record: &mut Record, call: Call) -> Answer {
+    baseline::call(record, call)
+}
+
+const NO_ANSWER: Answer = Answer { kind: 2, code: 0, place: 0, a: 0, b: 0, c: 0 };
+
+extern "C" fn does_nothing(_: &mut Record, _: Call) -> Answer {
+    NO_ANSWER
+}
+
+#[repr(C)]
+struct Job {
+    entry: Entry,
+    record: Record,
+    call: Call,
+    answer: Answer,
+}
+
+extern "C" fn play(job: &mut Job) {
+    // SAFETY: an entry takes any record and any call, and writes the record alone.
+    job.answer = unsafe { (job.entry)(&mut job.record, job.call) };
+}
+
+#[derive(Clone, Copy, Default)]
+struct Figures {
+    // Copies of 2,000 bytes or more, and the bytes of all copies. A record that the compiler copies part by part is in the bytes alone, so the limit is
+    // on these.
+    whole: usize,
+    copied: usize,
+    // Bytes of stack.
+    stack: usize,
+}
+
+impl Figures {
+    fn most(self, other: Figures) -> Figures {
+        Figures { whole: self.whole.max(other.whole), copied: self.copied.max(other.copied), stack: self.stack.max(other.stack) }
+    }
+}
+
+fn raw(job: &mut Job) -> Figures {
+    // SAFETY: `play` is handed the job, which nobody else uses meanwhile; copies.c hands over two numbers.
+    unsafe {
+        let before = copied_so_far();
+        let stack = stack_written(play, job);
+        let after = copied_so_far();
+        Figures { whole: after.whole - before.whole, copied: after.bytes - before.bytes, stack }
+    }
+}
+
+// Whether copies.c is what was linked. A copy of a length that the compiler doesn't know is a call of memcpy.
+fn copies_are_counted() -> bool {
+    let (from, mut to) = ([1u8; 3000], [0u8; 3000]);
+    let length = black_box(from.len());
+    // SAFETY: as for `raw`.
+    let before = unsafe { copied_so_far() };
+    to[..length].copy_from_slice(&black_box(from)[..length]);
+    black_box(to);
+    // SAFETY: likewise.
+    let after = unsafe { copied_so_far() };
+    after.whole > before.whole && after.bytes >= before.bytes + length
+}
+
+fn job(entry: Entry, record: &Record, call: Call) -> Job {
+    Job { entry, record: *record, call, answer: NO_ANSWER }
+}
+
+// The frames that play a call, which aren't the call's. A function that does nothing puts nothing below them but the address to return to.
+fn frames_around() -> usize {
+    static FRAMES: OnceLock<usize> = OnceLock::new();
+    *FRAMES.get_or_init(|| raw(&mut job(does_nothing, &Record::empty(), A_TICK)).stack - size_of::<usize>())
+}
+
+fn measured(entry: Entry, record: &Record, call: Call) -> (Figures, Answer, Record) {
+    let mut job = job(entry, record, call);
+    let figures = raw(&mut job);
+    (Figures { stack: figures.stack - frames_around(), ..figures }, job.answer, job.record)
+}
+
+// ── Lines ──
+
+struct Line {
+    name: String,
+    played: usize,
+    library: Figures,
+    rust: Figures,
+}
+
+impl Line {
+    fn new(name: String) -> Line {
+        Line { name, played: 0, library: Figures::default(), rust: Figures::default() }
+    }
+
+    // The line keeps the most of all calls that were played for it.
+    fn play(&mut self, record: &Record, call: Call) -> Result<Answer, String> {
+        let (library, answer, after) = measured(linguastel_call, record, call);
+        let (rust, other, rust_after) = measured(rust_call, record, call);
+        if answer != other || after != rust_after {
+            let records = if after == rust_after { "equal" } else { "not equal" };
+            return Err(format!("{}: {call:?}: {answer:?}, in Rust {other:?}; the records are {records}", self.name));
+        }
+        self.played += 1;
+        self.library = self.library.most(library);
+        self.rust = self.rust.most(rust);
+        Ok(answer)
+    }
+
+    fn print(&self) {
+        let Line { name, played, library, rust } = self;
+        print_row(name, [*played, library.whole, library.copied, library.stack, rust.copied, rust.stack]);
+    }
+}
+
+fn print_row<T: Display>(name: &str, cells: [T; 6]) {
+    let cells: Vec<String> = cells.iter().map(|cell| format!("{cell:>8}")).collect();
+    println!("{name:<56}{}", cells.concat());
+}
+
+// ── The ways of a call ──
+
+const NAMES: [&str; 25] = [
+    "tick",
+    "define_task",
+    "cre_dtq",
+    "del_dtq",
+    "snd_dtq",
+    "psnd_dtq",
+    "tsnd_dtq",
+    "fsnd_dtq",
+    "rcv_dtq",
+    "prcv_dtq",
+    "trcv_dtq",
+    "ref_dtq",
+    "cre_mbx",
+    "del_mbx",
+    "snd_mbx",
+    "rcv_mbx",
+    "prcv_mbx",
+    "trcv_mbx",
+    "ref_mbx",
+    "rel_wai",
+    "sus_tsk",
+    "rsm_tsk",
+    "look",
+    "fetch",
+    "number 24",
+];
+
+const REFUSED: &str = "refused";
+
+// The ways in which a call is accepted.
+fn ways(number: u32) -> &'static [&'static str] {
+    match number {
+        TICK => &["ends nothing", "ends a wait"],
+        DEL_DTQ => &["nobody waits", "senders wait", "receivers wait"],
+        SND_DTQ | TSND_DTQ => &["to a receiver", "stored", "waits", "waits by priority"],
+        PSND_DTQ => &["to a receiver", "stored"],
+        FSND_DTQ => &["to a receiver", "stored", "replaces the oldest"],
+        RCV_DTQ | TRCV_DTQ => &["a stored word", "refills from a sender", "from a sender", "waits"],
+        PRCV_DTQ => &["a stored word", "refills from a sender", "from a sender"],
+        DEL_MBX => &["nothing in it", "tasks wait", "messages are queued"],
+        SND_MBX => &["to a waiter", "queued", "queued by priority"],
+        RCV_MBX | TRCV_MBX => &["a message", "waits", "waits by priority"],
+        PRCV_MBX => &["a message"],
+        REL_WAI => &["of a sender", "of a receiver", "at a mailbox"],
+        FETCH.. if number > FETCH => &[],
+        _ => &["accepted"],
+    }
+}
+
+fn waits(by_priority: bool) -> &'static str {
+    if by_priority {
+        "waits by priority"
+    } else {
+        "waits"
+    }
+}
+
+fn way_at_queue(before: &Record, number: u32, q: usize, answer: Answer) -> &'static str {
+    let (sender, receiver) = (before.waiting.link[HEADS_OF_SENDERS + q] != 0, before.waiting.link[HEADS_OF_RECEIVERS + q] != 0);
+    let Queue { ring, attribute, .. } = before.queues[q];
+    let sends = matches!(number, SND_DTQ..=FSND_DTQ);
+    match number {
+        DEL_DTQ if sender => "senders wait",
+        DEL_DTQ if receiver => "receivers wait",
+        DEL_DTQ => "nobody waits",
+        _ if answer.waits() => waits(sends && attribute == TA_TPRI as u8),
+        _ if sends && receiver => "to a receiver",
+        _ if sends && ring.count < ring.capacity => "stored",
+        _ if sends => "replaces the oldest",
+        _ if !sender => "a stored word",
+        _ if ring.count == 0 => "from a sender",
+        _ => "refills from a sender",
+    }
+}
+
+fn way_at_mailbox(before: &Record, number: u32, b: usize, answer: Answer) -> &'static str {
+    let (waiter, message) = (before.waiting.link[HEADS_OF_WAITERS + b] != 0, before.messages.link[HEADS_OF_MESSAGES + b] != 0);
+    let attribute = u32::from(before.mailboxes[b].attribute);
+    match number {
+        DEL_MBX if waiter => "tasks wait",
+        DEL_MBX if message => "messages are queued",
+        DEL_MBX => "nothing in it",
+        SND_MBX if waiter => "to a waiter",
+        SND_MBX if attribute & TA_MPRI != 0 => "queued by priority",
+        SND_MBX => "queued",
+        _ if answer.waits() => waits(attribute & TA_TPRI != 0),
+        _ => "a message",
+    }
+}
+
+fn way(before: &Record, call: Call, answer: Answer) -> &'static str {
+    let object = call.object as usize;
+    match call.number {
+        // A code that fetch gives is that of a wait, unless there is nothing to fetch.
+        FETCH if matches!(answer.code, E_OK | E_RLWAI | E_TMOUT | E_DLT) => "accepted",
+        _ if answer.kind == 0 && answer.code != E_OK => REFUSED,
+        TICK if answer.a == 0 => "ends nothing",
+        TICK => "ends a wait",
+        DEL_DTQ..=TRCV_DTQ => way_at_queue(before, call.number, object, answer),
+        DEL_MBX..=TRCV_MBX => way_at_mailbox(before, call.number, object, answer),
+        REL_WAI => ["", "of a sender", "of a receiver", "at a mailbox"][before.tasks[object].wait as usize],
+        _ => "accepted",
+    }
+}
+
+// ── All calls on a record ──
+
+// Who calls, and whether the CPU is locked or dispatching disabled: a task that may call, the handler, a task that waits, and no task.
+fn contexts(record: &Record) -> Vec<Call> {
+    let able = (1..=TASKS).rfind(|t| record.tasks[*t].flags == DEFINED && record.tasks[*t].wait == NO_WAIT).expect("a task that may call");
+    let waiting = (1..=TASKS).find(|t| record.tasks[*t].wait != NO_WAIT).expect("a task that waits");
+    let me = Call { caller: able as u32, ..A_TICK };
+    let other = |caller| Call { caller, ..A_TICK };
+    vec![me, Call { locked: 1, ..me }, Call { disabled: 1, ..me }, other(0), other(waiting as u32), other(33)]
+}
+
+// Values and attributes, with some that are out of range.
+fn words(number: u32) -> (&'static [u32], &'static [u32]) {
+    match number {
+        DEFINE_TASK => (&[0, 1, 16, 17], &[0]),
+        CRE_DTQ => (&[0, 4, 16, 17], &[0, 1, 2]),
+        CRE_MBX => (&[0, 8, 16, 17], &[0, 1, 2, 3, 4]),
+        SND_MBX => (&[0, 1, 20, 64, 65], &[0, 1, 3, 8, 16, 17]),
+        _ => (&[7], &[0]),
+    }
+}
+
+fn tmouts(number: u32) -> &'static [i32] {
+    match number {
+        TSND_DTQ | TRCV_DTQ | TRCV_MBX => &[-2, FOREVER, 0, 1, 100],
+        _ => &[0],
+    }
+}
+
+// Each of the calls with each of the options.
+fn each<T: Copy>(calls: &[Call], options: &[T], with: impl Fn(Call, T) -> Call) -> Vec<Call> {
+    calls.iter().flat_map(|call| options.iter().map(|option| with(*call, *option))).collect()
+}
+
+fn calls_of(record: &Record, number: u32) -> Vec<Call> {
+    let (values, attributes) = words(number);
+    let objects: Vec<u32> = (0..=33).collect();
+    let calls = each(&contexts(record), &objects, |call, object| Call { number, object, ..call });
+    let calls = each(&calls, values, |call, value| Call { value, ..call });
+    let calls = each(&calls, attributes, |call, attribute| Call { attribute, ..call });
+    each(&calls, tmouts(number), |call, tmout| Call { tmout, ..call })
+}
+
+// One line for each way of each call, for these records together. A way that no call went is an error.
+fn all_calls(name: &str, records: &[Record]) -> Result<Vec<Line>, String> {
+    let mut all = Vec::new();
+    for number in TICK..=FETCH + 1 {
+        let ways: Vec<&str> = ways(number).iter().copied().chain([REFUSED]).collect();
+        let mut lines: Vec<Line> = ways.iter().map(|way| Line::new(format!("{name}: {}, {way}", NAMES[number as usize]))).collect();
+        for record in records {
+            for call in calls_of(record, number) {
+                let mut after = *record;
+                let taken = way(record, call, after.call(call));
+                let place = ways.iter().position(|way| *way == taken).ok_or(format!("{name}: {call:?}: '{taken}' is no way of this call"))?;
+                lines[place].play(record, call)?;
+            }
+        }
+        all.extend(lines);
+    }
+    match all.iter().find(|line| line.played == 0) {
+        Some(line) => Err(format!("{}: no call went this way", line.name)),
+        None => Ok(all),
+    }
+}
+
+// ── The records ──
+
+fn made(mut record: Record, calls: &[Call]) -> Record {
+    for call in calls {
+        let answer = record.call(*call);
+        assert!(answer.is_ok() || answer.waits(), "{call:?}: {answer:?}");
+    }
+    record
+}
+
+fn situation(name: &str) -> Record {
+    let situation = situations().into_iter().find(|situation| situation.name == name).expect("a record of this name");
+    made(Record { counter: situation.counter, ..Record::empty() }, &situation.calls)
+}
+
+// The test finds this in the last row that it looks at.
+fn not_sound(mut record: Record) -> Record {
+    record.mailboxes[MAILBOXES].defined = 2;
+    record
+}
+
+fn a_tick_from_its_end(task: u32, queue: u32) -> Call {
+    Call { tmout: 1, ..by(task, TRCV_DTQ, queue) }
+}
+
+// The typical record, and then one with what it lacks: a sender at a queue without places, an empty mailbox with waits by priority, a suspended task, a
+// wait that the next tick ends.
+fn typical_records() -> Vec<Record> {
+    let record = situation("typical");
+    let more = [create_queue(7, 0, 0), send(6, 7, 1), create_mailbox(5, 1, 0), by(0, SUS_TSK, 3), a_tick_from_its_end(7, 6)];
+    vec![record, made(record, &more), not_sound(record)]
+}
+
+// The full record; one with a task, a queue, a mailbox and a message less, and a suspended task; one with a mailbox in order of arrival, and a wait that
+// the next tick ends.
+fn full_records() -> Vec<Record> {
+    let record = situation("full");
+    let mut less = made(record, &[by(32, DEL_DTQ, 16), by(32, DEL_MBX, 16), by(0, PRCV_MBX, 1), by(0, SUS_TSK, 3)]);
+    less.tasks[31].flags = 0;
+    let other = [by(32, DEL_MBX, 16), create_mailbox(16, 0, 0), by(0, PRCV_MBX, 1), a_tick_from_its_end(31, 16)];
+    vec![record, less, made(record, &other), not_sound(record)]
+}
+
+// ── Where the most is to be done ──
+
+// What 32 tasks wait for, all at one object.
+struct Crowd {
+    name: &'static str,
+    object: Call,
+    wait: u32,
+    delete: u32,
+}
+
+fn crowds() -> [Crowd; 3] {
+    [
+        Crowd { name: "senders", object: create_queue(1, 1, 0), wait: TSND_DTQ, delete: DEL_DTQ },
+        Crowd { name: "receivers", object: create_queue(1, 0, 16), wait: TRCV_DTQ, delete: DEL_DTQ },
+        Crowd { name: "waiters at a mailbox", object: create_mailbox(1, 1, 0), wait: TRCV_MBX, delete: DEL_MBX },
+    ]
+}
+
+impl Crowd {
+    fn wait_of(&self, task: u32) -> Call {
+        Call { tmout: 1, ..by(task, self.wait, 1) }
+    }
+
+    // So many tasks wait, the smallest number last: a tick, which goes by number, then finds each at the end of the chain.
+    fn waiting(&self, tasks: u32) -> Record {
+        let defined = (1..=TASKS as u32).map(|task| define(task, 5));
+        let calls: Vec<Call> = defined.chain([self.object]).chain((1..=tasks).rev().map(|task| self.wait_of(task))).collect();
+        made(Record::empty(), &calls)
+    }
+}
+
+fn messages_queued(count: u32) -> Record {
+    let calls: Vec<Call> = [define(1, 5), create_mailbox(1, 2, 16)].into_iter().chain((1..=count).map(|number| message(0, 1, number, 5))).collect();
+    made(Record::empty(), &calls)
+}
+
+fn one(name: String, record: Record, call: Call, expected: Expected) -> Result<Line, String> {
+    let mut line = Line::new(name);
+    let answer = line.play(&record, call)?;
+    if expected.is(answer) {
+        Ok(line)
+    } else {
+        Err(format!("{}: {call:?}: {answer:?}", line.name))
+    }
+}
+
+fn longest() -> Result<Vec<Line>, String> {
+    let ok = Code(E_OK);
+    let mut lines = Vec::new();
+    for crowd in crowds() {
+        let name = crowd.name;
+        assert_eq!(crowd.waiting(32).call(A_TICK).a, 32);
+        lines.push(one(format!("most: tick ends 32 waits, {name}"), crowd.waiting(32), A_TICK, ok)?);
+        lines.push(one(format!("most: rel_wai of the last of 32 {name}"), crowd.waiting(32), by(0, REL_WAI, 1), ok)?);
+        lines.push(one(format!("most: {} with 31 {name}", NAMES[crowd.delete as usize]), crowd.waiting(31), by(32, crowd.delete, 1), ok)?);
+        lines.push(one(format!("most: {} behind 31 {name}", NAMES[crowd.wait as usize]), crowd.waiting(31), crowd.wait_of(32), Place(31))?);
+    }
+    lines.push(one("most: snd_mbx by priority behind 63 messages".into(), messages_queued(63), message(0, 1, 64, 5), ok)?);
+    lines.push(one("most: prcv_mbx, the first of 64 messages".into(), messages_queued(64), by(0, PRCV_MBX, 1), ok)?);
+    lines.push(one("most: del_mbx with 64 messages".into(), messages_queued(64), by(1, DEL_MBX, 1), ok)?);
+    Ok(lines)
+}
+
+// ── The limits ──
+
+fn all_lines() -> Result<Vec<Line>, String> {
+    let mut lines = all_calls("typical", &typical_records())?;
+    lines.extend(all_calls("full", &full_records())?);
+    lines.extend(longest()?);
+    Ok(lines)
+}
+
+// The largest of all lines, with the first line that has it.
+fn print_most(what: &str, lines: &[Line], limit: Option<usize>, of: impl Fn(&Line) -> usize) {
+    let most = lines.iter().rev().max_by_key(|line| of(line)).expect("a line");
+    let limit = limit.map_or(String::new(), |limit| format!(", limit {limit}"));
+    println!("the most {what}: {}{limit} ({})", of(most), most.name);
+}
+
+fn above<'a>(lines: &'a [Line], what: &'a str, limit: usize, of: fn(&Line) -> usize) -> impl Iterator<Item = String> + 'a {
+    let over = lines.iter().filter(move |line| of(line) > limit);
+    over.map(move |line| format!("{}: {} {what}, above {limit}", line.name, of(line)))
+}
+
+fn run() -> Result<(), String> {
+    if !copies_are_counted() {
+        return Err("copies aren't counted: bench/copies.c is not what was linked".into());
+    }
+    let lines = all_lines()?;
+    print_row("", ["", "whole", "bytes", "", "Rust:", ""]);
+    print_row("the most of all calls that were played", ["calls", "copies", "copied", "stack", "copied", "stack"]);
+    lines.iter().for_each(Line::print);
+    print_most("whole copies", &lines, None, |line| line.library.whole);
+    print_most("bytes copied", &lines, Some(COPIED_LIMIT), |line| line.library.copied);
+    print_most("bytes of stack", &lines, Some(STACK_LIMIT), |line| line.library.stack);
+    print_most("bytes copied in Rust", &lines, None, |line| line.rust.copied);
+    print_most("bytes of stack in Rust", &lines, None, |line| line.rust.stack);
+    let copied = above(&lines, "bytes copied", COPIED_LIMIT, |line| line.library.copied);
+    let stack = above(&lines, "bytes of stack", STACK_LIMIT, |line| line.library.stack);
+    let faults: Vec<String> = copied.chain(stack).collect();
+    if faults.is_empty() {
+        Ok(())
+    } else {
+        Err(faults.join("\n"))
+    }
+}
+
+fn main() {
+    if let Err(what) = run() {
+        eprintln!("{what}");
+        exit(1);
+    }
+}

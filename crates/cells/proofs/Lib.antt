@@ -1,3 +1,0 @@
-pub mod Faithful
-pub mod Numbers
-pub mod Reading

@@ -1,0 +1,6 @@
+pub mod Record
+pub mod Writing
+pub mod Steps
+pub mod Numbers
+pub mod Promises
+pub mod ByCall

@@ -1,0 +1,5 @@
+pub mod Record
+pub mod Written
+pub mod Numbers
+pub mod Step
+pub mod ByCall

@@ -1,0 +1,186 @@
+// The record that a host in another language lends: numbers alone. Its tasks are read as the kernel's at the border, and those that a call may have changed are
+// written back; all other parts are the kernel's own.
+ghost use mathlib.Core.Path.{_≡_};
+ghost use Rattle.model.specs.Rows.{empty-state};
+ghost use Rattle.host_record.specs.Record.{state-of, HostSound, meaning};
+ghost use Rattle.decide.specs.Touches.{every-task};
+ghost use Rattle.host_record.specs.Written.{TasksWritten};
+ghost use Rattle.host_record.specs.Step.{CallJudged, Said, Stored};
+ghost use Rattle.host_calls.specs.Calls.{answer-of};
+ghost use Rattle.kernel.specs.Steps.{Appliable, Applied};
+use chain::Chains;
+use decide::Decision;
+use decide::EVERY_TASK;
+use host_calls::HostAnswer;
+use host_calls::HostCall;
+use host_tasks::HostTask;
+use parts::MAILBOX_CELLS;
+use parts::Mailbox;
+use parts::QUEUE_CELLS;
+use parts::Queue;
+use parts::TASK_CELLS;
+use parts::Task;
+use record::State;
+use record::Step;
+
+// Cell n belongs to number n, as in `State`. What is made of words comes before what is made of bytes, and every byte belongs to a field.
+#[repr(C)]
+pub struct HostRecord {
+    pub counter: u32,
+    pub tasks: [HostTask; TASK_CELLS],
+    pub queues: [Queue; QUEUE_CELLS],
+    pub waiting: Chains,
+    pub messages: Chains,
+    pub mailboxes: [Mailbox; MAILBOX_CELLS],
+    // Says nothing, and is 0 in every record that is handed back changed.
+    pub spare: u8,
+}
+
+// What a call comes to, and whether that changes anything.
+pub struct HostJudged {
+    pub decision: Decision,
+    pub changes: bool,
+}
+
+// The state that the record holds, whatever its numbers are.
+pub fn state_of(lent: HostRecord) -> State
+    ensures { λ r. ⌜ r ≡ state-of lent ⌝ }
+{
+    let numbers = lent.tasks;
+    let queues = lent.queues;
+    let waiting = lent.waiting;
+    let messages = lent.messages;
+    let mailboxes = lent.mailboxes;
+    State {
+        counter: lent.counter,
+        tasks: host_tasks::tasks_of(numbers),
+        queues,
+        waiting,
+        messages,
+        mailboxes,
+    }
+}
+
+// The numbers of all tasks, written anew.
+fn write_all(
+    mut numbers: [HostTask; TASK_CELLS],
+    tasks: [Task; TASK_CELLS],
+) -> [HostTask; TASK_CELLS]
+    ensures { λ r. ⌜ TasksWritten numbers tasks every-task r ⌝ }
+{
+    let mut t: usize = 1;
+    while t < TASK_CELLS {
+        numbers[t] = host_tasks::write_task(tasks[t]);
+        t += 1;
+    }
+    numbers
+}
+
+// The numbers of the tasks after a step: those of the one task that it touched, of none, or of all are written anew.
+fn tasks_after(
+    mut numbers: [HostTask; TASK_CELLS],
+    tasks: [Task; TASK_CELLS],
+    touched: u8,
+) -> [HostTask; TASK_CELLS]
+    ensures { λ r. ⌜ TasksWritten numbers tasks touched r ⌝ }
+{
+    if touched == EVERY_TASK {
+        return write_all(numbers, tasks);
+    }
+    let one = touched as usize;
+    if one < TASK_CELLS {
+        numbers[one] = host_tasks::write_task(tasks[one]);
+    }
+    numbers
+}
+
+// The record in which nothing is defined, at counter 0.
+pub fn empty() -> HostRecord
+    ensures { λ r. ⌜ HostSound r × (meaning r ≡ empty-state 0) ⌝ }
+{
+    let none = HostTask {
+        word: 0,
+        end: 0,
+        sending: 0,
+        wait: 0,
+        object: 0,
+        timed: 0,
+        code: 0,
+        flags: 0,
+    };
+    let state = State::empty();
+    let queues = state.queues;
+    let waiting = state.waiting;
+    let messages = state.messages;
+    let mailboxes = state.mailboxes;
+    HostRecord {
+        counter: state.counter,
+        tasks: [none; TASK_CELLS],
+        queues,
+        waiting,
+        messages,
+        mailboxes,
+        spare: 0,
+    }
+}
+
+// ── The parts of a call on a lent record; crate linguastel puts them together ──
+
+// What a call, or with number 0 the tick, comes to on whatever state.
+pub fn judge(state: State, call: HostCall) -> HostJudged
+    ensures { λ r. ⌜ CallJudged state call r ⌝ }
+{
+    let decision = kernel::judge(state, host_calls::call_of(call));
+    HostJudged {
+        decision,
+        changes: decide::changes(decision),
+    }
+}
+
+// The answer of a call that changes nothing.
+pub fn said(judged: HostJudged) -> HostAnswer
+    ensures { λ r. ⌜ Said (judged .decision) r ⌝ }
+{
+    let decision = judged.decision;
+    let answer = decide::said(decision);
+    host_calls::answer_of(answer)
+}
+
+// The kernel's step of a call that changes something.
+pub fn apply(state: State, judged: HostJudged) -> Step
+    requires { ⌜ Appliable state (judged .decision) ⌝ }
+    ensures { λ r. ⌜ Applied state (judged .decision) r ⌝ }
+{
+    let decision = judged.decision;
+    kernel::apply(state, decision)
+}
+
+// The record that holds the new state: the tasks that the call touched are written back.
+pub fn stored(lent: HostRecord, stepped: Step, judged: HostJudged) -> HostRecord
+    ensures { λ r. ⌜ Stored lent stepped (judged .decision) r ⌝ }
+{
+    let decision = judged.decision;
+    let numbers = lent.tasks;
+    let tasks = stepped.state.tasks;
+    let queues = stepped.state.queues;
+    let waiting = stepped.state.waiting;
+    let messages = stepped.state.messages;
+    let mailboxes = stepped.state.mailboxes;
+    HostRecord {
+        counter: stepped.state.counter,
+        tasks: tasks_after(numbers, tasks, decide::touches(decision)),
+        queues,
+        waiting,
+        messages,
+        mailboxes,
+        spare: 0,
+    }
+}
+
+// The answer of a step, for the host.
+pub fn answered(stepped: Step) -> HostAnswer
+    ensures { λ r. ⌜ r ≡ answer-of (stepped .answer) ⌝ }
+{
+    let answer = stepped.answer;
+    host_calls::answer_of(answer)
+}

@@ -1,0 +1,50 @@
+-- `lap` leaves a sound record on each way.
+use borrow.Author.Needs.{needs}
+use Rattle.laps.proofs.Kept.{kept}
+use Rattle.laps.proofs.lap.Statement.{statement}
+use Rattle.laps.proofs.lap.Tie as tie
+
+undefined-requires : tie.Need-undefined-requires
+undefined-requires c κs = search needs
+
+finished-requires : tie.Need-finished-requires
+finished-requires c κs = search needs
+
+returns : tie.Need-returns
+returns c = search needs
+
+through-requires : tie.Need-through-requires
+through-requires c κs = search needs
+
+returns-2 : tie.Need-returns-2
+returns-2 c = kept (search needs) (c .through .ensures)
+
+advance-requires : tie.Need-advance-requires
+advance-requires c κs = search needs
+
+returns-3 : tie.Need-returns-3
+returns-3 c = kept (search needs) (c .advance .ensures)
+
+wide-requires : tie.Need-wide-requires
+wide-requires c κs = search needs
+
+finished-requires-2 : tie.Need-finished-requires-2
+finished-requires-2 c κs = search needs
+
+returns-4 : tie.Need-returns-4
+returns-4 c = search needs
+
+pub lap-spec : {M : Type 1} → statement M
+lap-spec =
+    tie.close
+    (tie.spec
+    undefined-requires
+    finished-requires
+    returns
+    through-requires
+    returns-2
+    advance-requires
+    returns-3
+    wide-requires
+    finished-requires-2
+    returns-4)

@@ -1,0 +1,276 @@
+// Plays calls on one state record in one of three ways, so that what a call costs can be counted from outside (bench/enter): through the entry, by
+// the step behind the soundness test, or not at all. It reads records from standard input, as crates/traces does: the first says how, in its byte 0,
+// and gives the counter, in its bytes 4 to 7; the next make the record through the entry; those behind the mark are played as the first says, as
+// often as the input has them. It prints a checksum of their answers.
+ghost use Prim.Native.Nat.{_+_, _≤_};
+ghost use Rattle.lists.specs.Tests.{Whether};
+ghost use Rattle.record.specs.Sound.{Sound};
+ghost use Rattle.record.specs.Step.{Stepped};
+use kernel::Kernel;
+use libc::STDIN_FILENO;
+use libc::STDOUT_FILENO;
+use model::Answer;
+use model::Call;
+use model::Code;
+use model::Outcome;
+use model::Wait;
+use parts::OK;
+use parts::Task;
+use record::State;
+use record::Step;
+
+// The bytes of a record (document 02, item 3).
+const RECORD: usize = 32;
+
+// A record with this number is no call: it is the mark.
+const MARK: u8 = 255;
+
+// Nor is one with this number: the host takes away the task of byte 3, which no call does.
+const UNDEFINE: u8 = 254;
+
+// The records behind the mark are played through the entry.
+const ENTER: u8 = 1;
+
+// They are played by the step behind the test. With any other number they aren't played.
+const ADVANCE: u8 = 2;
+
+// ── Records ──
+
+// A byte as a word, so that it can be shifted to its place.
+fn wide(x: u8) -> u32 {
+    x as u32
+}
+
+// A word of four bytes, the lowest first.
+fn word_at(record: &[u8; RECORD], at: usize) -> u32
+    requires { ⌜ at + 4 ≤ 32 ⌝ }
+{
+    let low = wide(record[at]) | wide(record[at + 1]) << 8;
+    let high = wide(record[at + 2]) << 16 | wide(record[at + 3]) << 24;
+    low | high
+}
+
+// A word as a signed number, as two's complement has it.
+fn signed(word: u32) -> i32 {
+    if word < 2147483648 {
+        return word as i32;
+    }
+    !((4294967295 - word) as i32)
+}
+
+// Bytes 0 to 15: the call. Flag 1 is locked, flag 2 dispatching disabled.
+fn call_of(record: &[u8; RECORD]) -> Call {
+    let flags = record[2];
+    Call {
+        number: record[0],
+        caller: record[1],
+        locked: flags & 1 != 0,
+        disabled: flags & 2 != 0,
+        object: record[3],
+        value: word_at(record, 4),
+        tmout: signed(word_at(record, 8)),
+        attribute: word_at(record, 12),
+    }
+}
+
+// The next record of the input, and how many of its bytes there were: fewer than a record's at the end.
+struct Read {
+    record: [u8; RECORD],
+    got: usize,
+}
+
+fn read_record() -> Read {
+    let mut record = [0u8; RECORD];
+    let got = io::read_full(STDIN_FILENO, &mut record);
+    Read { record, got }
+}
+
+// ── The checksum ──
+
+// The number of a code in document 01's error table, without its sign.
+fn number_of(code: Code) -> u32 {
+    match code {
+        Code::Ok => 0,
+        Code::Sys => 5,
+        Code::Par => 17,
+        Code::Id => 18,
+        Code::Ctx => 25,
+        Code::Iluse => 28,
+        Code::Obj => 41,
+        Code::Noexs => 42,
+        Code::Qovr => 43,
+        Code::Rlwai => 49,
+        Code::Tmout => 50,
+        Code::Dlt => 51,
+    }
+}
+
+// The sum with one word more.
+fn mixed(sum: u32, word: u32) -> u32 {
+    (sum << 5 | sum >> 27) ^ word
+}
+
+// A wait's place is told from a code by a bit that neither has.
+fn with_outcome(sum: u32, outcome: Outcome) -> u32 {
+    match outcome {
+        Outcome::Finished(code) => mixed(sum, number_of(code)),
+        Outcome::Waits(place) => mixed(sum, place ^ 65536),
+    }
+}
+
+fn with_answer(sum: u32, answer: Answer) -> u32 {
+    let outcome = answer.outcome;
+    mixed(
+        mixed(mixed(with_outcome(sum, outcome), answer.a), answer.b),
+        answer.c,
+    )
+}
+
+// ── Playing ──
+
+// Whether a record is sound, which is a part of what every call sees: here look, by caller 0, of task 0.
+fn sound(state: State) -> bool
+    ensures { λ r. ⌜ Whether (Sound state) r ⌝ }
+{
+    let call = Call {
+        number: 22,
+        caller: 0,
+        locked: false,
+        disabled: false,
+        object: 0,
+        value: 0,
+        tmout: 0,
+        attribute: 0,
+    };
+    let seen = see::see(state, call);
+    seen.sound
+}
+
+// The record without this task, where it is sound so.
+fn undefined(state: State, task: u8) -> State
+    requires { ⌜ Sound state ⌝ }
+    ensures { λ r. ⌜ Sound r ⌝ }
+{
+    let mut next = state;
+    if 32 < task {
+        return state;
+    }
+    next.tasks[task as usize] = Task {
+        wait: Wait::NoWait,
+        word: 0,
+        code: OK,
+        defined: false,
+        suspended: false,
+    };
+    if !sound(next) {
+        return state;
+    }
+    next
+}
+
+// The empty record with this counter.
+fn started(counter: u32) -> State
+    ensures { λ r. ⌜ Sound r ⌝ }
+{
+    let empty = State::empty();
+    let mut state = empty;
+    state.counter = counter;
+    if !sound(state) {
+        return empty;
+    }
+    state
+}
+
+// One call through the entry.
+fn through(mut state: State, call: Call) -> Step
+    ensures { λ r. ⌜ Stepped state call r ⌝ }
+{
+    let answer = entry::enter(&mut state, call);
+    Step { state, answer }
+}
+
+// One call by the step behind the test.
+fn advance(state: State, call: Call) -> Step
+    requires { ⌜ Sound state ⌝ }
+    ensures { λ r. ⌜ Stepped state call r ⌝ }
+{
+    Kernel { state }.advance(call)
+}
+
+// The records up to the mark, each through the entry. A proved loop has to end, and nothing says that the input does: so the turns are counted down.
+fn set_up(counter: u32) -> State
+    ensures { λ r. ⌜ Sound r ⌝ }
+{
+    let mut state = started(counter);
+    let mut turns = u64::MAX;
+    while 0 < turns {
+        let read = read_record();
+        let record = read.record;
+        let number = record[0];
+        if number == MARK {
+            return state;
+        }
+        if read.got < RECORD {
+            return state;
+        }
+        let done = through(state, call_of(&record));
+        state = done.state;
+        turns -= 1;
+    }
+    state
+}
+
+// One record behind the mark: what is done with it, and its answer. Where the call isn't played, its own fields stand for an answer.
+fn lap(state: State, call: Call, how: u8) -> Step
+    requires { ⌜ Sound state ⌝ }
+    ensures { λ r. ⌜ Sound (r .state) ⌝ }
+{
+    let number = call.number;
+    if number == UNDEFINE {
+        let next = undefined(state, call.object);
+        let none = record::finished(Code::Ok, 0, 0, 0);
+        return Step {
+            state: next,
+            answer: none,
+        };
+    }
+    if how == ENTER {
+        return through(state, call);
+    }
+    if how == ADVANCE {
+        return advance(state, call);
+    }
+    let answer = record::finished(Code::Ok, call.value, wide(call.object), call.attribute);
+    Step { state, answer }
+}
+
+// The records behind the mark, and the checksum of their answers.
+fn play(start: State, how: u8) -> u32
+    requires { ⌜ Sound start ⌝ }
+{
+    let mut state = start;
+    let mut sum: u32 = 1;
+    let mut turns = u64::MAX;
+    while 0 < turns {
+        let read = read_record();
+        if read.got < RECORD {
+            return sum;
+        }
+        let record = read.record;
+        let done = lap(state, call_of(&record), how);
+        let answer = done.answer;
+        state = done.state;
+        sum = with_answer(sum, answer);
+        turns -= 1;
+    }
+    sum
+}
+
+fn main() {
+    let first = read_record();
+    let record = first.record;
+    let how = record[0];
+    let start = set_up(word_at(&record, 4));
+    io::print_decimal(STDOUT_FILENO, play(start, how) as u64);
+    io::write_all(STDOUT_FILENO, b"\n");
+}
