@@ -173,7 +173,7 @@ fn on_tasks(r: &Roles) -> Vec<Cycle> {
     vec![
         cycle("sus_tsk, rsm_tsk", &[], vec![(by(0, SUS_TSK, r.task), OK), (by(0, RSM_TSK, r.task), OK)]),
         cycle("rel_wai, rcv waits again (w)", &r.to_wait, vec![(by(0, REL_WAI, last), OK), (by(last, RCV_DTQ, r.empty), Place(behind))]),
-        cycle("trcv, a tick ends it (w)", &waits_already, vec![(trcv, Place(place)), (A_TICK, OK)]),
+        cycle("trcv, the second tick ends it (w)", &waits_already, vec![(trcv, Place(place)), (A_TICK, OK), (A_TICK, OK)]),
         cycle("a tick that ends nothing", &r.to_wait, vec![(A_TICK, OK)]),
     ]
 }

@@ -37,6 +37,9 @@ fn demand(holds: bool, code: i32) -> Result<(), i32> {
 // Numbers of each kind of object.
 const OBJECTS: usize = 16;
 
+// The latest end tick, in ticks from now: that of a wait with the longest tmout.
+pub const FARTHEST_END: u32 = LONGEST_TMOUT as u32 + 1;
+
 // Whether the four chains with heads from this cell on are empty. Most are, and the compiler reads four heads at once.
 #[inline(always)]
 fn four_empty(link: &[u8; 81], head: usize) -> bool {
@@ -112,7 +115,7 @@ fn task_sound(task: &Task, priority: u8, standing: u8, counter: u32) -> bool {
     }
     match task.timed {
         0 => true,
-        1 => (1..=LONGEST_TMOUT as u32).contains(&task.end.wrapping_sub(counter)),
+        1 => (1..=FARTHEST_END).contains(&task.end.wrapping_sub(counter)),
         _ => false,
     }
 }
@@ -274,7 +277,7 @@ fn join(record: &mut Record, head: usize, me: u32, ranked: bool, wait: Wait) -> 
     let behind = limit(ranked, record.waiting.key[i]);
     let place = insert(&mut record.waiting, head, me as u8, behind);
     let timed = wait.tmout >= 0;
-    let end = if timed { record.counter.wrapping_add(wait.tmout as u32) } else { 0 };
+    let end = if timed { record.counter.wrapping_add(wait.tmout as u32 + 1) } else { 0 };
     let Wait { kind, object, sending, .. } = wait;
     let flags = record.tasks[i].flags;
     record.tasks[i] = Task { word: 0, end, sending, wait: kind, object, timed: timed.into(), code: 0, flags };

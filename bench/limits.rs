@@ -344,7 +344,8 @@ fn not_sound(mut record: Record) -> Record {
     record
 }
 
-fn a_tick_from_its_end(task: u32, queue: u32) -> Call {
+// After one tick, this wait is a tick from its end.
+fn shortest_wait(task: u32, queue: u32) -> Call {
     Call { tmout: 1, ..by(task, TRCV_DTQ, queue) }
 }
 
@@ -352,7 +353,7 @@ fn a_tick_from_its_end(task: u32, queue: u32) -> Call {
 // wait that the next tick ends.
 fn typical_records() -> Vec<Record> {
     let record = situation("typical");
-    let more = [create_queue(7, 0, 0), send(6, 7, 1), create_mailbox(5, 1, 0), by(0, SUS_TSK, 3), a_tick_from_its_end(7, 6)];
+    let more = [create_queue(7, 0, 0), send(6, 7, 1), create_mailbox(5, 1, 0), by(0, SUS_TSK, 3), shortest_wait(7, 6), A_TICK];
     vec![record, made(record, &more), not_sound(record)]
 }
 
@@ -362,7 +363,7 @@ fn full_records() -> Vec<Record> {
     let record = situation("full");
     let mut less = made(record, &[by(32, DEL_DTQ, 16), by(32, DEL_MBX, 16), by(0, PRCV_MBX, 1), by(0, SUS_TSK, 3)]);
     less.tasks[31].flags = 0;
-    let other = [by(32, DEL_MBX, 16), create_mailbox(16, 0, 0), by(0, PRCV_MBX, 1), a_tick_from_its_end(31, 16)];
+    let other = [by(32, DEL_MBX, 16), create_mailbox(16, 0, 0), by(0, PRCV_MBX, 1), shortest_wait(31, 16), A_TICK];
     vec![record, less, made(record, &other), not_sound(record)]
 }
 
@@ -389,10 +390,10 @@ impl Crowd {
         Call { tmout: 1, ..by(task, self.wait, 1) }
     }
 
-    // So many tasks wait, the smallest number last: a tick, which goes by number, then finds each at the end of the chain.
+    // So many tasks wait, a tick from their end, the smallest number last: the tick, which goes by number, then finds each at the end of the chain.
     fn waiting(&self, tasks: u32) -> Record {
         let defined = (1..=TASKS as u32).map(|task| define(task, 5));
-        let calls: Vec<Call> = defined.chain([self.object]).chain((1..=tasks).rev().map(|task| self.wait_of(task))).collect();
+        let calls: Vec<Call> = defined.chain([self.object]).chain((1..=tasks).rev().map(|task| self.wait_of(task))).chain([A_TICK]).collect();
         made(Record::empty(), &calls)
     }
 }

@@ -17,8 +17,8 @@ const TASKS: usize = 32;
 const OBJECTS: usize = 16;
 const MESSAGES: usize = 64;
 
-// The latest end tick, in ticks from now.
-const FARTHEST: u32 = 2_147_483_646;
+// The latest end tick, in ticks from now (document 02, item 1).
+const FARTHEST: u32 = 2_147_483_647;
 
 // ── A state ──
 
@@ -248,7 +248,7 @@ const SENTENCES: [(Sentence, &str); 33] = [
     (HighestPriorities, "with attribute 2 or 3 the highest message priority is 1 to 16"),
     (KeptPriorities, "a kept message priority is 1 to its mailbox's highest"),
     (StoredCodes, "a stored code is 0, -49, -50 or -51"),
-    (EndTicks, "an end tick is 1 to 2,147,483,646 ticks away"),
+    (EndTicks, "an end tick is 1 to 2,147,483,647 ticks away"),
 ];
 
 // The first sentence that doesn't hold, if there is one.
@@ -495,7 +495,7 @@ fn stored_codes_end_a_wait(state: &State) -> Reading {
 }
 
 fn end_ticks_are_ahead(state: &State) -> Reading {
-    // An end tick is 1 to 2,147,483,646 ticks away. The counter goes from 4,294,967,295 to 0.
+    // An end tick is 1 to 2,147,483,647 ticks away (document 02, item 1). The counter goes from 4,294,967,295 to 0.
     for wait in state.tasks[1..].iter().filter_map(|task| task.wait.as_ref()) {
         if let Some(tick) = wait.end {
             let away = (tick as u64 + (1 << 32) - state.counter as u64) % (1 << 32);
@@ -722,12 +722,12 @@ const SOUND: [HandMade; 29] = [
     }),
     ("a receiver waits at a queue of capacity 0", None, |s| s.queues[3].capacity = 0),
     ("an end tick 1 tick away", None, |s| s.set_end(2, 1001)),
-    ("an end tick 2,147,483,646 ticks away", None, |s| s.set_end(2, 1000 + FARTHEST)),
+    ("an end tick 2,147,483,647 ticks away", None, |s| s.set_end(2, 1000 + FARTHEST)),
     ("an end tick 1 tick away, behind the counter's wrap", None, |s| {
         s.counter = u32::MAX;
         s.set_end(2, 0)
     }),
-    ("an end tick 2,147,483,646 ticks away, behind the wrap", None, |s| {
+    ("an end tick 2,147,483,647 ticks away, behind the wrap", None, |s| {
         s.counter = u32::MAX;
         s.set_end(2, FARTHEST - 1)
     }),
@@ -886,13 +886,13 @@ const WRONG_CODES: [HandMade; 12] = [
 
 const WRONG_ENDS: [HandMade; 8] = [
     ("an end tick 0 ticks away", Some(EndTicks), |s| s.set_end(2, 1000)),
-    ("an end tick 2,147,483,647 ticks away", Some(EndTicks), |s| s.set_end(2, 1000 + FARTHEST + 1)),
+    ("an end tick 2,147,483,648 ticks away", Some(EndTicks), |s| s.set_end(2, 1000 + FARTHEST + 1)),
     ("an end tick that has passed", Some(EndTicks), |s| s.set_end(2, 999)),
     ("an end tick that has passed, before the wrap", Some(EndTicks), |s| {
         s.counter = 0;
         s.set_end(2, u32::MAX)
     }),
-    ("an end tick 2,147,483,647 ticks away, behind the wrap", Some(EndTicks), |s| {
+    ("an end tick 2,147,483,648 ticks away, behind the wrap", Some(EndTicks), |s| {
         s.counter = u32::MAX;
         s.set_end(2, FARTHEST)
     }),

@@ -1,4 +1,5 @@
 //! Random calls on the proved library and on the baseline: the answers and the whole records, cell by cell, have to be the same after each call.
+use baseline::FARTHEST_END;
 use linguastel::number::*;
 use linguastel::*;
 
@@ -124,7 +125,7 @@ fn damage(record: &mut Record, random: &mut Random) {
         2 => task.timed = byte,
         3 => task.code = byte,
         4 => task.flags = random.pick(&[0, 1, 2, 3, 4, 256, 257, 1 << 31 | 1, u32::MAX]),
-        5 => task.end = random.pick(&[0, 1, record.counter, record.counter.wrapping_sub(1), record.counter.wrapping_add(LONGEST_TMOUT as u32 + 1)]),
+        5 => task.end = record.counter.wrapping_add(random.pick(&[0, 1, u32::MAX, FARTHEST_END, FARTHEST_END + 1])),
         6 => queue.ring.head = byte,
         7 => queue.ring.count = byte,
         8 => queue.ring.capacity = byte,

@@ -50,7 +50,7 @@ pub const DAMAGES: [Damage; 13] = [
 ];
 
 /// The most ticks that an end may be away.
-const FARTHEST: u32 = 2_147_483_646;
+const FARTHEST: u32 = 2_147_483_647;
 
 /// Limits of some kind, their neighbours, and codes without their sign.
 const SPECIAL: [u8; 20] = [0, 1, 2, 3, 4, 15, 16, 17, 31, 32, 33, 48, 49, 50, 51, 52, 64, 65, 80, 255];

@@ -1,6 +1,7 @@
 //! A second program for data queues, mailboxes, task states and the tick.
-//! It was written from the paper 01-scope.md alone, to be compared with the
-//! proved kernel. Every list is a plain `Vec`, in the order of the list.
+//! It was written from the papers 01-scope.md and, from item 1 on,
+//! 02-change-requests.md alone, to be compared with the proved kernel. Every
+//! list is a plain `Vec`, in the order of the list.
 #![forbid(unsafe_code)]
 
 mod errors;

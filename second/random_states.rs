@@ -161,12 +161,14 @@ fn place_waiter(random: &mut Random, state: &mut State, task: u32, object: u32, 
     }
 }
 
-/// No end, or an end tick that is not too far away.
+/// No end, or an end tick that is not too far away, often the nearest or the
+/// farthest one.
 fn random_end(random: &mut Random, counter: u32) -> Option<u32> {
-    let away = match random.below(4) {
+    let away = match random.below(5) {
         0 => return None,
-        1 => LARGEST_TMOUT - random.below(3),
-        2 => random.between(1, LARGEST_TMOUT),
+        1 => FARTHEST_END - random.below(3),
+        2 => random.between(1, FARTHEST_END),
+        3 => random.between(1, 3),
         _ => random.between(1, 30),
     };
     Some(counter.wrapping_add(away))
@@ -228,7 +230,29 @@ fn change_task(random: &mut Random, state: &mut State) {
         3 => task.code = random.pick(&[0, -49, -50, -51, -52, 1, -17, i32::MIN]),
         4 => task.word = random.number(),
         5 => task.priority = random.pick(&[0, 1, 16, 17]),
+        6 => change_end(random, &mut task.wait, counter),
         _ => task.wait = random_wait(random, counter),
+    }
+}
+
+/// Another end for the wait that the task has, so that nothing but the end
+/// tick may be wrong.
+fn change_end(random: &mut Random, wait: &mut Wait, counter: u32) {
+    match wait {
+        Wait::No => {}
+        Wait::Sending { end, .. } | Wait::Receiving { end, .. } | Wait::AtMailbox { end, .. } => {
+            *end = any_end(random, counter)
+        }
+    }
+}
+
+/// Any end, often one next to a limit of a sound end tick.
+fn any_end(random: &mut Random, counter: u32) -> Option<u32> {
+    match random.below(4) {
+        0 => Some(counter),
+        1 => Some(counter.wrapping_add(FARTHEST_END + random.below(2))),
+        2 => Some(random.number()),
+        _ => random_end(random, counter),
     }
 }
 
@@ -238,12 +262,7 @@ fn random_wait(random: &mut Random, counter: u32) -> Wait {
         true => random.between(1, QUEUES),
         false => random.number(),
     };
-    let end = match random.below(4) {
-        0 => Some(counter),
-        1 => Some(counter.wrapping_add(LARGEST_TMOUT + random.below(2))),
-        2 => Some(random.number()),
-        _ => random_end(random, counter),
-    };
+    let end = any_end(random, counter);
     match random.below(4) {
         0 => Wait::No,
         1 => Wait::Sending {

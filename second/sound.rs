@@ -1,5 +1,6 @@
-//! The paper's section "A sound record": which states are sound, and when two
-//! states are equal. A state of these types may hold any number anywhere.
+//! The paper's section "A sound record", its limit of end ticks as item 1 of
+//! document 02 amends it: which states are sound, and when two states are
+//! equal. A state of these types may hold any number anywhere.
 
 use crate::state::*;
 
@@ -172,10 +173,10 @@ impl State {
         // stands in no other, and once, was seen when the lists were checked.
         let missing = task.waits() && !listed;
         refuse(missing, || format!("waiting task {number} is in no list"))?;
-        // An end tick is 1 to 2,147,483,646 ticks away.
+        // An end tick is 1 to 2,147,483,647 ticks away: item 1 of document 02.
         if let Some(end) = task.wait.end() {
             let left = end.wrapping_sub(self.counter);
-            let wrong = left < 1 || left > LARGEST_TMOUT;
+            let wrong = left < 1 || left > FARTHEST_END;
             refuse(wrong, || format!("end tick of task {number}"))?;
         }
         Ok(())

@@ -11,8 +11,10 @@ pub const MESSAGES: u32 = 64;
 pub const LARGEST_CAPACITY: u32 = 16;
 /// Largest priority of tasks and of messages.
 pub const LARGEST_PRIORITY: u32 = 16;
-/// Largest finite time-out, in ticks.
+/// Largest tmout that step 4 takes. Item 1 of document 02 leaves it as it is.
 pub const LARGEST_TMOUT: u32 = 2_147_483_646;
+/// A sound end tick is at most so many ticks away: item 1 of document 02.
+pub const FARTHEST_END: u32 = 2_147_483_647;
 
 /// The call numbers of the table "The calls, by number".
 pub const TICK: u32 = 0;

@@ -1,5 +1,6 @@
 //! Tasks, waits and the tick: the paper's section "Task states and ticks",
-//! and `play`, which tests the error table and then does the call.
+//! its tick rule as item 1 of document 02 amends it, and `play`, which tests
+//! the error table and then does the call.
 
 use crate::errors::*;
 use crate::reached::{Path, Reached};
@@ -110,13 +111,15 @@ impl State {
         Answer::done(ended, 0, 0)
     }
 
-    /// The end tick of a wait that begins now. `timed` says that the call has
-    /// a time-out; -1 means no end, and 0 never comes to a wait.
+    /// The end tick of a wait that begins now: for tmout n the tick n + 1 from
+    /// here, item 1 of document 02. `timed` says that the call has a time-out;
+    /// -1 means no end, and 0 never comes to a wait.
     pub(crate) fn end_tick(&self, call: &Call, timed: bool) -> Option<u32> {
         if !timed || call.tmout == -1 {
             return None;
         }
-        Some(self.counter.wrapping_add(call.tmout as u32))
+        let ticks = (call.tmout as u32).wrapping_add(1);
+        Some(self.counter.wrapping_add(ticks))
     }
 
     /// Where a task goes in a list by task priority: behind the last task of a

@@ -1,4 +1,5 @@
-//! The paper's sixteen runs, and some cases around them.
+//! The paper's sixteen runs, and some cases around them. Item 1 of document 02
+//! amends runs 10 and 11.
 
 use crate::*;
 
@@ -199,8 +200,9 @@ fn run_9() {
     run.refused(PRCV_DTQ, 2, 1, 0, E_TMOUT);
 }
 
-/// Runs 10 and 11 differ in the counter at the start.
-fn time_out_after_two_ticks(counter: u32) -> u32 {
+/// Runs 10 and 11 differ in the counter at the start. Item 1 of document 02
+/// amends both: one tick more, and run 11 then leaves 1.
+fn time_out_after_three_ticks(counter: u32) -> u32 {
     let mut run = Run::from(counter);
     run.expect(
         Call {
@@ -210,6 +212,7 @@ fn time_out_after_two_ticks(counter: u32) -> u32 {
         Answer::Waits { place: 0 },
     );
     run.tick(0);
+    run.tick(0);
     run.tick(1);
     run.fetch(1, E_TMOUT, 0);
     run.state.counter
@@ -217,12 +220,12 @@ fn time_out_after_two_ticks(counter: u32) -> u32 {
 
 #[test]
 fn run_10() {
-    assert_eq!(time_out_after_two_ticks(0), 2);
+    assert_eq!(time_out_after_three_ticks(0), 3);
 }
 
 #[test]
 fn run_11() {
-    assert_eq!(time_out_after_two_ticks(4_294_967_294), 0);
+    assert_eq!(time_out_after_three_ticks(4_294_967_294), 1);
 }
 
 #[test]
@@ -359,7 +362,7 @@ fn time_out_limits() {
         tmout,
         ..call(TRCV_MBX, 1, 1, 0)
     };
-    run.expect(timed(i32::MAX), Answer::refused(E_PAR));
+    run.expect(timed(2_147_483_647), Answer::refused(E_PAR));
     run.expect(timed(-2), Answer::refused(E_PAR));
     run.expect(timed(0), Answer::refused(E_TMOUT));
     run.expect(timed(2_147_483_646), Answer::Waits { place: 0 });
@@ -367,7 +370,7 @@ fn time_out_limits() {
         run.state.task(1).wait,
         Wait::AtMailbox {
             mailbox: 1,
-            end: Some(2_147_483_646)
+            end: Some(2_147_483_647)
         }
     );
     run.expect(
@@ -386,6 +389,52 @@ fn time_out_limits() {
     );
 }
 
+/// Item 1 of document 02: a wait with tmout n ends in tick n + 1 after the
+/// call, whatever the counter was.
+#[test]
+fn time_out_one_tick_after_tmout() {
+    for counter in [0, 1, 2_147_483_640, 4_294_967_290, u32::MAX - 1, u32::MAX] {
+        for tmout in [1, 2, 3, 10] {
+            for (number, object) in [(TSND_DTQ, 2), (TRCV_DTQ, 1), (TRCV_MBX, 1)] {
+                let mut run = Run::from(counter);
+                let timed = Call {
+                    tmout,
+                    ..call(number, 1, object, 7)
+                };
+                run.expect(timed, Answer::Waits { place: 0 });
+                for _ in 0..tmout {
+                    run.tick(0);
+                }
+                run.refused(FETCH, 0, 1, 0, E_OBJ);
+                run.tick(1);
+                run.fetch(1, E_TMOUT, 0);
+            }
+        }
+    }
+}
+
+/// The largest tmout gives the farthest sound end tick. The counter is put
+/// next to that tick, since so many ticks cannot be played.
+#[test]
+fn time_out_of_the_largest_tmout() {
+    for counter in [0, 1, 2_147_483_647, 2_147_483_648, 2_147_483_649, u32::MAX] {
+        let mut run = Run::from(counter);
+        let timed = Call {
+            tmout: 2_147_483_646,
+            ..call(TRCV_DTQ, 1, 1, 0)
+        };
+        run.expect(timed, Answer::Waits { place: 0 });
+        let end = counter.wrapping_add(2_147_483_647);
+        assert_eq!(run.state.task(1).wait.end(), Some(end));
+        run.tick(0);
+        run.state.counter = end.wrapping_sub(2);
+        run.tick(0);
+        run.tick(1);
+        assert_eq!(run.state.counter, end);
+        run.fetch(1, E_TMOUT, 0);
+    }
+}
+
 /// A time-out withdraws the word of the sender, and several end in one tick.
 #[test]
 fn several_time_outs_in_one_tick() {
@@ -401,6 +450,7 @@ fn several_time_outs_in_one_tick() {
     run.ok(SUS_TSK, 0, 1, 0);
     run.tick(0);
     assert_eq!(run.state.counter, 0);
+    run.tick(0);
     run.tick(2);
     run.fetch(1, E_TMOUT, 0);
     run.gives(LOOK, 0, 1, 0, [0, 0, 1]);
@@ -484,25 +534,39 @@ fn sentences_on_task_records() {
     assert!(sound_after(|state| state.tasks[5].code = -17));
 }
 
+/// The limits of item 1 of document 02, from counters on both sides of the
+/// wrap; with an unsound end tick a call and the tick give E_SYS.
 #[test]
 fn sentence_on_end_ticks() {
-    for (away, sound) in [
-        (0, false),
-        (1, true),
-        (2_147_483_646, true),
-        (2_147_483_647, false),
-        (u32::MAX, false),
-    ] {
-        let wait = Wait::Sending {
-            queue: 2,
-            word: 1,
-            end: Some(away),
-        };
-        assert_eq!(
-            sound_after(|state| state.tasks[1].wait = wait.clone()),
-            sound
-        );
+    for counter in [0, 1, 2_147_483_647, 2_147_483_648, u32::MAX] {
+        for (away, sound) in [
+            (0, false),
+            (1, true),
+            (2_147_483_646, true),
+            (2_147_483_647, true),
+            (2_147_483_648, false),
+            (u32::MAX, false),
+        ] {
+            let mut state = sending_until(counter, away);
+            assert_eq!(state.sound(), sound);
+            let refused = [Answer::refused(E_SYS); 2];
+            let calls = [call(LOOK, 0, 1, 0), call(TICK, 0, 0, 0)];
+            assert_eq!(answers(&mut state, &calls) == refused, !sound);
+        }
     }
+}
+
+/// The start of the runs with this counter, task 1 sending at queue 2 with an
+/// end tick so many ticks away.
+fn sending_until(counter: u32, away: u32) -> State {
+    let mut state = Run::from(counter).state;
+    state.queues[2].senders.push(1);
+    state.tasks[1].wait = Wait::Sending {
+        queue: 2,
+        word: 1,
+        end: Some(counter.wrapping_add(away)),
+    };
+    state
 }
 
 #[test]
@@ -576,6 +640,29 @@ fn random_states_are_sound() {
         assert_eq!(random_sound_state(&mut random).fault(), None);
         assert!(!random_unsound_state(&mut random).sound());
     }
+}
+
+/// The random states have end ticks at both limits, and just outside of them
+/// with nothing else wrong.
+#[test]
+fn random_end_ticks_at_the_limits() {
+    let mut random = Random::new(5);
+    let (mut inside, mut outside) = (Vec::new(), Vec::new());
+    for _ in 0..2_000 {
+        inside.extend(ticks_left(&random_sound_state(&mut random)));
+        let state = random_unsound_state(&mut random);
+        if matches!(state.fault(), Some(text) if text.starts_with("end tick")) {
+            outside.extend(ticks_left(&state));
+        }
+    }
+    assert!(inside.contains(&1) && inside.contains(&2_147_483_647));
+    assert!(outside.contains(&0) && outside.contains(&2_147_483_648));
+}
+
+/// For each wait with an end, how many ticks away the end is.
+fn ticks_left(state: &State) -> Vec<u32> {
+    let ends = state.tasks.iter().filter_map(|task| task.wait.end());
+    ends.map(|end| end.wrapping_sub(state.counter)).collect()
 }
 
 /// Every valid number that a restricted call names is of its own.

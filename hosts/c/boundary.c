@@ -487,6 +487,7 @@ static void make_various(LinguastelRecord *record)
     }
     linguastel_irel_wai(record, 5);
     linguastel_guarded_tick(record);
+    linguastel_guarded_tick(record);
     linguastel_del_dtq(record, linguastel_as_task(3), 4);
 }
 
@@ -640,7 +641,7 @@ static void test_view(void)
     check_object_view(&record, 1);
     check_object_view(&record, 2);
     check(record.counter == 1, "the counter");
-    check(record.tasks[1].timed == 1 && record.tasks[1].end == 8, "the end tick");
+    check(record.tasks[1].timed == 1 && record.tasks[1].end == 9, "the end tick");
     check(record.tasks[2].code == 49, "the code of a released wait");
     check(record.tasks[4].sending == 44, "a sender's word");
     for (size_t place = 0; place < 3; place++) {
@@ -649,6 +650,46 @@ static void test_view(void)
     check(record.messages.link[33] == 64 && record.messages.key[33] == 8 && record.messages.key[64] == 9, "queued messages");
     check(record.mailboxes[2].attribute == LINGUASTEL_TA_MPRI && record.mailboxes[2].highest == 9, "a mailbox");
     check(record.queues[2].attribute == LINGUASTEL_TA_TPRI && record.queues[2].ring.capacity == 3, "a data queue");
+}
+
+/* ---- Groups: time-outs ---- */
+
+/* Task 1 waits from this counter with this tmout. */
+static void make_waiting(LinguastelRecord *record, uint32_t counter, int32_t tmout)
+{
+    linguastel_empty(record);
+    record->counter = counter;
+    linguastel_idefine_task(record, 1, 5);
+    linguastel_icre_dtq(record, 1, LINGUASTEL_TA_TFIFO, 0);
+    check(linguastel_trcv_dtq(record, linguastel_as_task(1), 1, tmout).kind == LINGUASTEL_WAITS, "a wait with a tmout");
+}
+
+/* The next tick ends so many waits. */
+static void check_tick(LinguastelRecord *record, uint32_t ended, const char *what)
+{
+    LinguastelAnswer expected = { .a = ended };
+    check(same_answer(linguastel_guarded_tick(record), expected), what);
+}
+
+/* A wait with tmout n ends in tick n + 1; the counter comes to 0 meanwhile. */
+static void test_time_outs(void)
+{
+    LinguastelRecord record;
+    for (int32_t tmout = 1; tmout <= 3; tmout++) {
+        make_waiting(&record, UINT32_MAX - 1, tmout);
+        for (int32_t gone = 0; gone < tmout; gone++) {
+            check_tick(&record, 0, "a tick before the last");
+        }
+        check_tick(&record, 1, "tick n + 1");
+        check(linguastel_ifetch(&record, 1).code == LINGUASTEL_E_TMOUT, "the code of a time-out");
+    }
+    make_waiting(&record, 5, LINGUASTEL_LONGEST_TMOUT);
+    check(linguastel_guarded_sound(&record), "the longest tmout");
+    record.counter--;
+    check(!linguastel_guarded_sound(&record), "an end tick farther than the longest tmout's");
+    record.counter += (uint32_t)LINGUASTEL_LONGEST_TMOUT;
+    check_tick(&record, 0, "the last tick but one of the longest tmout");
+    check_tick(&record, 1, "the last tick of the longest tmout");
 }
 
 /* ---- Groups: the runs ---- */
@@ -855,6 +896,7 @@ static const struct {
     { "calls that write nothing", test_writes_nothing },
     { "bytes of the stack", test_stack },
     { "the record as C sees it", test_view },
+    { "time-outs", test_time_outs },
     { "the sixteen runs of document 01", test_sixteen_runs },
     { "each call, accepted", test_each_call },
     { "the error table", test_error_table },

@@ -25,8 +25,8 @@ enum { PRIORITY = 5, CAPACITY = 8, STEPS = 12 };
 /* Each line of carrier A's file but the first stands for so many of the line before it. */
 enum { A_LINES = 10, A_COPIES = 10 };
 
-/* The tmout of carrier A's sends. */
-enum { A_TMOUT = 3 };
+/* The tmout of carrier A's sends: a wait ends in the tick after so many. */
+enum { A_TMOUT = 2 };
 
 /* Carrier B's file; its reader empties the queue in every fourth step. */
 static const uint32_t b_words[STEPS] = { 615, 640, 705, 730, 800, 830, 915, 1000, 1045, 1130, 1215, 1300 };
@@ -234,7 +234,8 @@ int main(void)
     start(&host);
     printf("Carrier A's file has %d lines. Each but the first stands for %d of the line before it: ", A_LINES, A_COPIES);
     printf("%" PRIu64 " elements.\n", elements_of_a());
-    printf("Carrier B's file has %d words. Each carrier has a data queue of %d words, an import task and a reader. # is a stored word.\n\n", STEPS, CAPACITY);
+    printf("Carrier B's file has %d words. Each carrier has a data queue of %d words, an import task and a reader. # is a stored word.\n", STEPS, CAPACITY);
+    printf("A sends with tmout %d: what nobody takes is given up in tick %d after the call.\n\n", A_TMOUT, A_TMOUT + 1);
     printf("tick  A's queue                B's queue                received: A, B\n");
     play(&host);
 

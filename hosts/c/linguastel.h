@@ -29,7 +29,7 @@ enum {
     LINGUASTEL_MESSAGES = 64,
     LINGUASTEL_WORDS = 16, /* the largest capacity of a data queue */
     LINGUASTEL_LOWEST_PRIORITY = 16, /* of tasks and messages; 1 goes first */
-    LINGUASTEL_LONGEST_TMOUT = 2147483646,
+    LINGUASTEL_LONGEST_TMOUT = 2147483646, /* in ticks of 1 ms */
     LINGUASTEL_FOREVER = -1, /* the tmout that waits without end */
     LINGUASTEL_RECORD_SIZE = 2232,
     LINGUASTEL_RECORD_ALIGN = 4
@@ -164,7 +164,7 @@ typedef struct {
     uint32_t disabled; /* likewise */
     uint32_t object; /* the task, data queue or mailbox */
     uint32_t value; /* word, message, capacity, task priority or highest message priority */
-    int32_t tmout;
+    int32_t tmout; /* n waits at least n ms and less than n + 1: the wait ends in tick n + 1; 0 doesn't wait */
     uint32_t attribute; /* attribute or message priority */
 } LinguastelCall;
 

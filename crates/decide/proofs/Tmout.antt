@@ -1,5 +1,5 @@
 -- The end of a wait from its tmout: by the sign of the tmout.
-use mathlib.Core.Path.{_≡_, refl, ap, subst}
+use mathlib.Core.Path.{_≡_, refl, _∙_, ap, subst}
 use mathlib.Core.Bool.{true, false}
 use Prim.Native.Nat.{ℕ, _+_, _%_, _<_}
 use native.Mathlib.Omega.{arith}
@@ -8,7 +8,7 @@ use lib.IntN.{ℤ, pos, negsuc, natAbs}
 use lib.Signed.{ltZ, nonNeg}
 use borrow.Author.Tests.{ltb-true}
 use mir.Syntax.{w32}
-use mir.Val.{Fits, SFits}
+use mir.Val.{SFits}
 use Rattle.model.specs.Sizes.{counter-span}
 use Rattle.model.specs.Waits.{end-of}
 use Rattle.model.specs.declared.End.the-variants.{Never, At}
@@ -19,16 +19,16 @@ unfolding end-of
 ends-never counter (pos n) h = absurd (let z = ltb-true n 0 h in omega arith)
 ends-never counter (negsuc n) h = refl
 
--- Any other fits an unsigned number, and so many ticks on the wait ends.
+-- Any other has 31 bits, and in the tick after so many the wait ends.
 pub not-negative : (tmout : ℤ) → ltZ tmout (pos 0) ≡ false → T (nonNeg tmout)
 not-negative (pos n) h = tt
 not-negative (negsuc n) h = subst T h tt
 
-pub size-fits : (tmout : ℤ) → SFits w32 tmout → ltZ tmout (pos 0) ≡ false → Fits w32 (natAbs tmout)
-size-fits (pos n) f h = let g : n < 2147483648 = f .sfits in record { fits = omega arith }
-size-fits (negsuc n) f h = absurd (subst T h tt)
+pub size-below : (tmout : ℤ) → SFits w32 tmout → ltZ tmout (pos 0) ≡ false → natAbs tmout < 2147483648
+size-below (pos n) f h = f .sfits
+size-below (negsuc n) f h = absurd (subst T h tt)
 
-pub ends-at : (counter tick : ℕ) (tmout : ℤ) → ltZ tmout (pos 0) ≡ false → tick ≡ (counter + natAbs tmout) % counter-span → At tick ≡ end-of counter tmout
+pub ends-at : (counter tick : ℕ) (tmout : ℤ) → ltZ tmout (pos 0) ≡ false → tick ≡ (counter + (natAbs tmout + 1)) % counter-span → At tick ≡ end-of counter tmout
 unfolding end-of
-ends-at counter tick (pos n) h e = ap At e
+ends-at counter tick (pos n) h e = let same : counter + (n + 1) ≡ counter + n + 1 = omega arith in ap At (e ∙ ap (λ ticks. ticks % counter-span) same)
 ends-at counter tick (negsuc n) h e = absurd (subst T h tt)

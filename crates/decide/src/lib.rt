@@ -112,14 +112,14 @@ fn kept(ranked: bool, highest: u32) -> u8
     0
 }
 
-// The end of a wait that starts now: tmout ticks on, modulo the counter's span. A tmout of -1 sets none.
+// The end of a wait that starts now: in tick tmout + 1 from here, modulo the counter's span (document 02, item 1). A tmout of -1 sets none.
 fn end_of(counter: u32, tmout: i32) -> End
     ensures { λ r. ⌜ r ≡ waits.end-of counter tmout ⌝ }
 {
     if tmout < 0 {
         return End::Never;
     }
-    End::At(std::num::wrapping_add_u32(counter, tmout as u32))
+    End::At(std::num::wrapping_add_u32(counter, tmout as u32 + 1))
 }
 
 // Of the calls that may wait, those without a tmout wait for ever.

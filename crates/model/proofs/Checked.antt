@@ -1,19 +1,18 @@
 -- What an accepted call says of its fields and of the rows in view: read off the error table.
 use mathlib.Core.Path.{_≡_, refl}
 use mathlib.Core.Bool.{not, _&&_, _||_}
-use mathlib.Core.List.{[], _∷_}
 use Prim.Native.Nat.{ℕ, _≤_, _<_}
 use native.Mathlib.Omega.{arith}
 use lib.Dec.{T, eqb, ltb, nltb→le}
 use lib.IntN.{ℤ, pos, negsuc}
 use lib.Signed.{ltZ}
-use mir.Facts.{T-not-not, yes-and, eqb-no}
+use mir.Facts.{T-not-not, yes-and}
 use Rattle.lists.specs.Lists.{empty}
 use Rattle.model.specs.Sizes.{task-limit, capacity-limit, priority-limit, tmout-limit, counter-span, within}
 use Rattle.model.specs.Rows.{messages-by-priority}
-use Rattle.model.specs.Calls.{Call, View, calls, creates, has-tmout, names-message, capacity-of, task-priority-of, highest-of, message-priority-of, task-only}
+use Rattle.model.specs.Calls.{Call, View, creates, has-tmout, names-message, capacity-of, task-priority-of, highest-of, message-priority-of, task-only}
 use Rattle.model.specs.Waits.{Wait, NoWait, Sending, Receiving, AtMailbox, able, end-of}
-use Rattle.model.specs.Errors.{caller-cannot-call, called-by-handler, tmout-outside, attribute-outside, capacity-outside, task-priority-outside, highest-outside, exists, missing, message-priority-outside, wrong-state, nothing-to-drop, is-zero, polls, would-wait}
+use Rattle.model.specs.Errors.{caller-cannot-call, called-by-handler, tmout-outside, attribute-outside, capacity-outside, task-priority-outside, highest-outside, exists, missing, message-priority-outside, wrong-state, nothing-to-drop}
 use Rattle.model.specs.WellFormed.{EndAhead}
 use Rattle.model.proofs.Tests.{from-within, neither-left, neither-right, not-both, not-both-left}
 use Rattle.model.proofs.Accepted.{Passes}
@@ -27,14 +26,13 @@ able-no-wait (Sending q end word) t = absurd t
 able-no-wait (Receiving q end) t = absurd t
 able-no-wait (AtMailbox b end) t = absurd t
 
--- The end of a wait that starts now, with a tmout of 1 or more or with none, is ahead and not too far.
-end-ahead : (counter : ℕ) (tmout : ℤ) → counter < counter-span → T (not (is-zero tmout)) → T (not (ltZ (pos tmout-limit) tmout)) → EndAhead counter (end-of counter tmout)
+-- The end of a wait that starts now, with a tmout that isn't too large, is ahead and not too far.
+end-ahead : (counter : ℕ) (tmout : ℤ) → counter < counter-span → T (not (ltZ (pos tmout-limit) tmout)) → EndAhead counter (end-of counter tmout)
 unfolding end-of
-end-ahead counter (pos n) inside some low =
+end-ahead counter (pos n) inside low =
     let above = nltb→le tmout-limit n low in
-    let one = eqb-no {a = n} {b = 0} some in
     record { in-range = omega arith; not-sooner = omega arith; not-later = omega arith }
-end-ahead counter (negsuc n) inside some low = tt
+end-ahead counter (negsuc n) inside low = tt
 
 module _ {v : View} {c : Call} (p : Passes v c) where
   -- ── The fields ──
@@ -106,11 +104,14 @@ module _ {v : View} {c : Call} (p : Passes v c) where
       not-both (eqb (c .number) 7) (eqb (v .the-queue .capacity) 0)
       (not-both-left (eqb (c .number) 7 && eqb (v .the-queue .capacity) 0) (empty (v .the-queue .receivers)) (p .step-6d) k) h
 
-  -- A call that would wait is no poll, so its wait ends in time.
-  pub wait-ends : (counter : ℕ) → counter < counter-span → T (has-tmout c) → T (would-wait v c) → EndAhead counter (end-of counter (c .tmout))
-  unfolding polls tmout-outside
-  wait-ends counter inside h k =
-      end-ahead counter (c .tmout) inside
-      (not-both (has-tmout c) (is-zero (c .tmout)) (neither-right (calls c (5 ∷ 9 ∷ 16 ∷ [])) _ (not-both-left (polls c) (would-wait v c) (p .step-7) k)) h)
-      (neither-right (ltZ (c .tmout) (negsuc 0)) (ltZ (pos tmout-limit) (c .tmout))
-      (not-both (has-tmout c) (ltZ (c .tmout) (negsuc 0) || ltZ (pos tmout-limit) (c .tmout)) (search (p .step-4, neither-left, neither-right)) h))
+  not-too-large : T (has-tmout c) → T (not (ltZ (pos tmout-limit) (c .tmout)))
+  unfolding tmout-outside
+  not-too-large h =
+      neither-right (ltZ (c .tmout) (negsuc 0)) (ltZ (pos tmout-limit) (c .tmout))
+      (not-both (has-tmout c) (ltZ (c .tmout) (negsuc 0) || ltZ (pos tmout-limit) (c .tmout)) (search (p .step-4, neither-left, neither-right)) h)
+
+  pub tmout-size : T (has-tmout c) → (n : ℕ) → c .tmout ≡ pos n → n ≤ tmout-limit
+  tmout-size h n e = nltb→le tmout-limit n (rw e at (not-too-large h))
+
+  pub wait-ends : (counter : ℕ) → counter < counter-span → T (has-tmout c) → EndAhead counter (end-of counter (c .tmout))
+  wait-ends counter inside h = end-ahead counter (c .tmout) inside (not-too-large h)

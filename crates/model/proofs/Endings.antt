@@ -32,7 +32,7 @@ use Rattle.model.specs.Step.{effect, step}
 use Rattle.model.specs.WellFormed.{WellFormedRows, WellFormed}
 use Rattle.model.specs.Answers.{is-wait}
 use Rattle.model.specs.WaitQueues.{standing-in}
-use Rattle.model.specs.Endings.{is-waiting, wait-ended, CodeAndWord, ended-with, WaitEnd, add-end, ends-among, ended-waits, Cause, is-head, causes, first-cause, takes-effect, due-to, row-after, wait-begins, begun-wait, defines, WaitsEndAsDue, EndedWaitsAreDue, TickCountsEnds}
+use Rattle.model.specs.Endings.{is-waiting, wait-ended, CodeAndWord, timed-out, ended-with, WaitEnd, add-end, ends-among, ended-waits, Cause, is-head, causes, first-cause, takes-effect, due-to, row-after, wait-begins, begun-wait, defines, WaitsEndAsDue, EndedWaitsAreDue, TickCountsEnds}
 use Rattle.model.specs.declared.Answer.{Answer}
 use Rattle.model.proofs.Tests.{from-within, or-left, or-right, not-both-left}
 use Rattle.model.proofs.Choices.{cond-yes, cond-no}
@@ -294,9 +294,6 @@ ended-waits-are-due m c w = record {
 -- ── The tick's count ──
 
 module _ (counter : ℕ) (m : Program.Rows Row) where
-  abbrev timed-out : CodeAndWord
-  timed-out = record { code = E-TMOUT; word = 0 }
-
   -- What is due in the tick, by the rows before it.
   abbrev due-now : ℕ → Option CodeAndWord
   due-now t = cond (due counter (wait-end (m (task t) .wait))) (some timed-out) none

@@ -11,7 +11,7 @@ use Rattle.rows.specs.Program.{step-of}
 use Rattle.model.specs.Sizes.{counter-span}
 use Rattle.model.specs.Rows.{task, TaskRow, Model}
 use Rattle.model.specs.Codes.{E-TMOUT}
-use Rattle.model.specs.Calls.{Call, View, sends-for-room, receives-word, has-tmout, may-wait, word-of, view-of}
+use Rattle.model.specs.Calls.{Call, sends-for-room, receives-word, has-tmout, may-wait, word-of, view-of}
 use Rattle.model.specs.Waits.{End, Never, At, Sending, Receiving, AtMailbox, wait-end, ended, end-of, due}
 use Rattle.model.specs.Errors.{refused, would-wait}
 use Rattle.model.specs.Tasks.{tick}
@@ -21,7 +21,7 @@ use Rattle.model.specs.Answers.{is-wait}
 use Rattle.model.specs.Endings.{CodeAndWord, due-to, row-after, wait-begins, begun-end, begun-wait, defines}
 use Rattle.model.specs.declared.Answer.{Answer}
 use Rattle.model.proofs.Step.{step-tick, step-call}
-use Rattle.model.proofs.Accepted.{passes}
+use Rattle.model.proofs.Accepted.{Passes, passes}
 use Rattle.model.proofs.Checked.{wait-ends}
 use Rattle.model.proofs.Answers.{waits-exactly}
 use Rattle.model.proofs.DueCalls.{as-due, Begins, Defines}
@@ -73,18 +73,15 @@ begun-with m c = go (sends-for-room c) (receives-word c)
     go false true = refl
     go false false = refl
 
+-- No row refuses a call that is answered "waits".
+pub begun-passes : (m : Model) (c : Call) → T (is-wait (step m c .answer .outcome)) → Passes (view-of m c) c
+begun-passes m c h =
+    let v = view-of m c in
+    passes v c (and-yes (may-wait c) (not (refused v c)) (and-yes (may-wait c && not (refused v c)) (would-wait v c) (subst T (waits-exactly m c) h) .0) .1)
+
 begun-ahead : (m : Model) (c : Call) → WellFormed m → T (is-wait (step m c .answer .outcome)) → EndAhead (m .environment .counter) (begun-end m c)
-begun-ahead m c w h = go (has-tmout c) (λ t. wait-ends (passes v c ok) (m .environment .counter) (w .counter-in-range) t (both-pass .1))
+begun-ahead m c w h = go (has-tmout c) (wait-ends (begun-passes m c h) (m .environment .counter) (w .counter-in-range))
   where
-    v : View
-    v = view-of m c
-
-    both-pass : T (may-wait c && not (refused v c)) × T (would-wait v c)
-    both-pass = and-yes (may-wait c && not (refused v c)) (would-wait v c) (subst T (waits-exactly m c) h)
-
-    ok : T (not (refused v c))
-    ok = and-yes (may-wait c) (not (refused v c)) (both-pass .0) .1
-
     go : (b : Bool) → (T b → EndAhead (m .environment .counter) (end-of (m .environment .counter) (c .tmout))) → EndAhead (m .environment .counter) (cond b (end-of (m .environment .counter) (c .tmout)) Never)
     go true k = k tt
     go false k = tt

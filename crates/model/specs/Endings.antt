@@ -36,6 +36,10 @@ pub record CodeAndWord : Type 0 where
   pub code : Code
   pub word : ℕ
 
+-- What a wait ends with whose time is over.
+abbrev pub timed-out : CodeAndWord
+timed-out = record { code = E-TMOUT; word = 0 }
+
 -- The pair stored with the task, where its wait has ended.
 abbrev pub ended-with : Program.Rows Row → Program.Rows Row → ℕ → Option CodeAndWord
 ended-with before after t = cond (wait-ended before after t) (some (record { code = after (task t) .code; word = after (task t) .word })) none
@@ -190,7 +194,7 @@ FetchGivesWhatWasDue =
     → (cs : List Call) → NoWaitBegins t (step m c .state) cs → (f : Call) → FetchOf t (end step (step m c .state) cs) f
     → step (end step (step m c .state) cs) f .answer ≡ finished (e .code) (e .word) 0 0
 
--- ── No wait outlives its time-out ──
+-- ── No wait outlives its time-out, and none times out before ──
 
 -- How many of these are ticks.
 unfoldable pub ticks : List Call → ℕ
@@ -212,11 +216,36 @@ NoWaitOutlivesTimeOut =
     (m : Model) (t tick : ℕ) → WellFormed m → wait-end (m .rows (task t) .wait) ≡ At tick
     → (cs : List Call) → ticks-left (m .environment .counter) tick ≤ ticks cs → GoesOn t m cs → ⊥
 
--- So a wait begun with tmout n doesn't go on through n ticks after the call.
+-- Tick k from m on ends the wait that task t has in m, and no tick before: of the ticks that come while the wait goes on, the one that is the k-th.
+abbrev pub EndsInTick : ℕ → Model → ℕ → Type 0
+EndsInTick t m k =
+    (cs : List Call) → GoesOn t m cs → (c : Call) → T (is-tick c)
+    → due-to (end step m cs) c t ≡ cond (eqb (suc (ticks cs)) k) (some timed-out) none
+
+-- It ends in the last of the ticks that are left to it.
+abbrev pub LastTickEndsWait : Type 0
+LastTickEndsWait =
+    (m : Model) (t tick : ℕ) → WellFormed m → wait-end (m .rows (task t) .wait) ≡ At tick → EndsInTick t m (ticks-left (m .environment .counter) tick)
+
+-- The call begins a wait with tmout n.
+pub record BeginsWithTmout (m : Model) (c : Call) (n : ℕ) : Type 0 where
+  pub waits : T (is-wait (step m c .answer .outcome))
+  pub timed : T (has-tmout c)
+  pub tmout-is : c .tmout ≡ pos n
+
+-- So a wait begun with tmout n doesn't go on through n + 1 ticks after the call;
 abbrev pub NoWaitOutlivesTmout : Type 0
 NoWaitOutlivesTmout =
-    (m : Model) (c : Call) (n : ℕ) → WellFormed m → T (is-wait (step m c .answer .outcome)) → T (has-tmout c) → c .tmout ≡ pos n
-    → (cs : List Call) → n ≤ ticks cs → GoesOn (c .caller) (step m c .state) cs → ⊥
+    (m : Model) (c : Call) (n : ℕ) → WellFormed m → BeginsWithTmout m c n
+    → (cs : List Call) → suc n ≤ ticks cs → GoesOn (c .caller) (step m c .state) cs → ⊥
+
+-- and it ends in tick n + 1 (document 02, item 1): tmout n waits at least n ms and less than n + 1.
+abbrev pub TickAfterTmoutEndsWait : Type 0
+TickAfterTmoutEndsWait = (m : Model) (c : Call) (n : ℕ) → WellFormed m → BeginsWithTmout m c n → EndsInTick (c .caller) (step m c .state) (suc n)
+
+-- None begins with tmout 0, which polls; its end tick, 1 tick away, would be sound.
+abbrev pub Tmout0BeginsNoWait : Type 0
+Tmout0BeginsNoWait = (m : Model) (c : Call) → BeginsWithTmout m c 0 → ⊥
 
 -- In no well-formed model has the counter come to the end tick of a wait that still goes on.
 abbrev pub EndTickNotReached : Type 0

@@ -1,4 +1,4 @@
--- Document 01, "Sixteen runs": one table, under one statement.
+-- Document 01, "Sixteen runs": one table, under one statement. Runs 10 and 11 are as document 02, item 1, amends them: one tick more, and run 11 leaves 1.
 use mathlib.Core.Path.{_≡_}
 use mathlib.Core.Bool.{false}
 use mathlib.Core.List.{List, [], _∷_, map}
@@ -141,6 +141,10 @@ setting =
     define 1 5 ∷ define 2 3 ∷ define 3 5 ∷ define 4 3
     ∷ cre-queue 1 0 2 ∷ cre-queue 2 1 0 ∷ cre-mailbox 1 2 4 ∷ []
 
+-- Runs 10 and 11 have the same lines.
+abbrev time-out-of-2 : List Line
+time-out-of-2 = trcv T1 1 (pos 2) ⇒ W 0 ∷ one-tick ⇒ word 0 ∷ one-tick ⇒ word 0 ∷ one-tick ⇒ word 1 ∷ fetch-of 1 ⇒ code E-TMOUT ∷ []
+
 unfoldable pub sixteen : List PaperRun
 sixteen =
     -- 1
@@ -166,9 +170,9 @@ sixteen =
     ∷ from-0 (snd T1 1 10 ⇒ ok ∷ snd T1 1 11 ⇒ ok ∷ snd T1 1 12 ⇒ W 0 ∷ rel 1 ⇒ ok ∷ fetch-of 1 ⇒ code E-RLWAI
     ∷ prcv T2 1 ⇒ word 10 ∷ prcv T2 1 ⇒ word 11 ∷ prcv T2 1 ⇒ code E-TMOUT ∷ [])
     -- 10
-    ∷ record { from = 0; leaves = 2; lines = trcv T1 1 (pos 2) ⇒ W 0 ∷ one-tick ⇒ word 0 ∷ one-tick ⇒ word 1 ∷ fetch-of 1 ⇒ code E-TMOUT ∷ [] }
+    ∷ record { from = 0; leaves = 3; lines = time-out-of-2 }
     -- 11
-    ∷ record { from = 4294967294; leaves = 0; lines = trcv T1 1 (pos 2) ⇒ W 0 ∷ one-tick ⇒ word 0 ∷ one-tick ⇒ word 1 ∷ fetch-of 1 ⇒ code E-TMOUT ∷ [] }
+    ∷ record { from = 4294967294; leaves = 1; lines = time-out-of-2 }
     -- 12
     ∷ from-0 (snd-message T1 1 5 3 ⇒ word 0 ∷ snd-message T1 1 6 1 ⇒ word 0 ∷ snd-message T1 1 7 3 ⇒ word 2
     ∷ prcv-message T2 1 ⇒ word 6 ∷ prcv-message T2 1 ⇒ word 5 ∷ prcv-message T2 1 ⇒ word 7 ∷ [])

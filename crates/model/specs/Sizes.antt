@@ -32,9 +32,9 @@ priority-limit = 16
 abbrev pub tmout-limit : ℕ
 tmout-limit = 2147483646
 
--- The latest end tick of a sound record, in ticks from now.
+-- The latest end tick of a sound record, in ticks from now: that of the largest tmout (document 02, item 1).
 abbrev pub end-limit : ℕ
-end-limit = 2147483646
+end-limit = 2147483647
 
 -- The tick counter counts modulo this number.
 abbrev pub counter-span : ℕ

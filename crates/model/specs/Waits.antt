@@ -82,9 +82,10 @@ starting wait x = record { defined = x .defined; priority = x .priority; wait = 
 abbrev pub ended : Code → ℕ → TaskRow → TaskRow
 ended code word x = record { defined = x .defined; priority = x .priority; wait = NoWait; code = code; word = word }
 
--- The end of a wait that starts at this counter: tmout ticks on, modulo the counter's span. A negative tmout, which is -1 after step 4, sets none.
+-- The end of a wait that starts at this counter: in tick tmout + 1 from there, modulo the counter's span (document 02, item 1). The first of these ticks may
+-- come at once, so that only then all of tmout has gone by. A negative tmout, which is -1 after step 4, sets none.
 unfoldable pub end-of : ℕ → ℤ → End
-end-of counter (pos n) = At ((counter + n) % counter-span)
+end-of counter (pos n) = At ((counter + n + 1) % counter-span)
 end-of counter (negsuc n) = Never
 
 -- Whether a wait with this end is over when the counter has this value.

@@ -6,7 +6,7 @@ use native.Mathlib.Omega.{arith}
 use lib.Dec.{T}
 use Rattle.lists.specs.Tests.{Whether, holds, fails}
 use Rattle.lists.proofs.Tests.{is-map, is-and, is-leb, passed-test, passes-test}
-use Rattle.model.specs.Sizes.{priority-limit, tmout-limit, counter-span, within}
+use Rattle.model.specs.Sizes.{priority-limit, end-limit, counter-span, within}
 use Rattle.model.specs.declared.End.{End}
 use Rattle.model.specs.declared.End.the-variants.{Never, At}
 use Rattle.model.specs.declared.Wait.{Wait}
@@ -24,7 +24,7 @@ never-ends counter e = subst (λ (v : End). Whether (EndAhead counter v) true) (
 
 -- The wrapping difference is the number of ticks left.
 pub ends-at : {counter tick left : ℕ} {end : End} {b : Bool} → end ≡ At tick → counter < counter-span → left < counter-span → (left + counter) % 2 ^ 32 ≡ tick
-    → Whether ((1 ≤ left) × (left ≤ tmout-limit)) b → Whether (EndAhead counter end) b
+    → Whether ((1 ≤ left) × (left ≤ end-limit)) b → Whether (EndAhead counter end) b
 ends-at {counter} {tick} {left} {b = b} e f g h i =
     let left-is : ticks-left counter tick ≡ left = omega arith in
     let within-span : tick < counter-span = omega arith in

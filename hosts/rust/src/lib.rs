@@ -21,6 +21,7 @@ pub const MESSAGES: usize = 64;
 pub const WORDS: usize = 16;
 /// Of tasks and messages; 1 goes first.
 pub const LOWEST_PRIORITY: u32 = 16;
+/// In ticks of 1 ms.
 pub const LONGEST_TMOUT: i32 = 2_147_483_646;
 /// The tmout that waits without end.
 pub const FOREVER: i32 = -1;
@@ -223,6 +224,7 @@ pub struct Call {
     pub object: u32,
     /// Word, message, capacity, task priority or highest message priority.
     pub value: u32,
+    /// n waits at least n ms and less than n + 1: the wait ends in tick n + 1. 0 doesn't wait.
     pub tmout: i32,
     /// Attribute or message priority.
     pub attribute: u32,

@@ -305,6 +305,7 @@ fn various() -> Record {
     }
     record.irel_wai(5);
     record.tick();
+    record.tick();
     record.del_dtq(Context::task(3), 4);
     record
 }
@@ -404,13 +405,48 @@ fn view() {
     }
     assert_object_view(&mut record, 1);
     assert_object_view(&mut record, 2);
-    assert_eq!((record.counter, record.tasks[1].timed, record.tasks[1].end), (1, 1, 8));
+    assert_eq!((record.counter, record.tasks[1].timed, record.tasks[1].end), (1, 1, 9));
     assert_eq!((record.tasks[2].code, record.tasks[4].sending), (49, 44));
     let ring = record.queues[2].ring;
     let stored: Vec<u32> = (0..3).map(|place| ring.words[(usize::from(ring.head) + place) % WORDS]).collect();
     assert_eq!((stored, ring.capacity), (vec![41, 42, 43], 3));
     assert_eq!((record.messages.link[33], record.messages.key[33], record.messages.key[64]), (64, 8, 9));
     assert_eq!((record.mailboxes[2].attribute, record.mailboxes[2].highest), (2, 9));
+}
+
+// ── Time-outs ──
+
+/// Task 1 waits from this counter with this tmout.
+fn waiting(counter: u32, tmout: i32) -> Record {
+    let mut record = Record { counter, ..Record::empty() };
+    record.idefine_task(1, 5);
+    record.icre_dtq(1, TA_TFIFO, 0);
+    assert!(record.trcv_dtq(Context::task(1), 1, tmout).waits());
+    record
+}
+
+/// A wait with tmout n ends in tick n + 1; the counter comes to 0 meanwhile.
+#[test]
+fn time_outs() {
+    for tmout in 1..=3 {
+        let mut record = waiting(u32::MAX - 1, tmout);
+        for _ in 0..tmout {
+            assert_eq!(record.tick().a, 0);
+        }
+        assert_eq!(record.tick().a, 1);
+        assert_eq!(record.ifetch(1).code, E_TMOUT);
+    }
+}
+
+#[test]
+fn the_longest_time_out() {
+    let mut record = waiting(5, LONGEST_TMOUT);
+    assert!(record.is_sound());
+    record.counter -= 1;
+    assert!(!record.is_sound());
+    record.counter += LONGEST_TMOUT as u32;
+    assert_eq!(record.tick().a, 0);
+    assert_eq!(record.tick().a, 1);
 }
 
 // ── The runs ──

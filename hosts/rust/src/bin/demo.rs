@@ -29,8 +29,8 @@ const STEPS: usize = 12;
 const A_LINES: u32 = 10;
 const A_COPIES: u64 = 10;
 
-// The tmout of carrier A's sends.
-const A_TMOUT: i32 = 3;
+// The tmout of carrier A's sends: a wait ends in the tick after so many.
+const A_TMOUT: i32 = 2;
 
 // Carrier B's file; its reader empties the queue in every fourth step.
 const B_WORDS: [u32; STEPS] = [615, 640, 705, 730, 800, 830, 915, 1000, 1045, 1130, 1215, 1300];
@@ -181,8 +181,9 @@ fn main() {
     let mut host = start();
     println!("Carrier A's file has {A_LINES} lines. Each but the first stands for {A_COPIES} of the line before it: {} elements.", elements_of_a());
     println!(
-        "Carrier B's file has {STEPS} words. Each carrier has a data queue of {CAPACITY} words, an import task and a reader. # is a stored word.\n"
+        "Carrier B's file has {STEPS} words. Each carrier has a data queue of {CAPACITY} words, an import task and a reader. # is a stored word."
     );
+    println!("A sends with tmout {A_TMOUT}: what nobody takes is given up in tick {} after the call.\n", A_TMOUT + 1);
     println!("tick  A's queue                B's queue                received: A, B");
     host.play();
 
