@@ -1,7 +1,8 @@
 //! A second program for data queues, mailboxes, task states and the tick.
 //! It was written from the papers 01-scope.md and, from item 1 on,
-//! 02-change-requests.md alone, to be compared with the proved kernel. Every
-//! list is a plain `Vec`, in the order of the list.
+//! 02-change-requests.md alone, to be compared with the proved kernel. Of the
+//! latter it has items 1 and 2. Every list is a plain `Vec`, in the order of
+//! the list.
 #![forbid(unsafe_code)]
 
 mod errors;
@@ -12,6 +13,7 @@ mod random_states;
 mod reached;
 mod sound;
 mod state;
+mod table;
 mod tasks;
 #[cfg(test)]
 mod tests;
@@ -21,3 +23,4 @@ pub use random::*;
 pub use random_states::*;
 pub use reached::*;
 pub use state::*;
+pub use table::*;

@@ -1,7 +1,9 @@
 //! `second COUNT SEED` plays COUNT random calls and ticks alone, and checks
 //! after every step that the state is sound, and that a refusal left it equal
-//! and gave zero words. It prints how often each row and path was reached and
-//! exits with 1 if one was not reached or a check failed.
+//! and gave zero words. Now and then it posts a random table in the place of a
+//! call, and checks it against its calls made singly. It prints how often each
+//! row and path was reached and exits with 1 if one was not reached or a check
+//! failed.
 #![forbid(unsafe_code)]
 
 use second::*;
@@ -12,6 +14,8 @@ use std::time::Instant;
 const LENGTH: u64 = 400;
 /// Steps of one sequence from a state that is not sound.
 const SHORT_LENGTH: u64 = 5;
+/// In so many of a hundred steps a table is posted.
+const TABLES: u32 = 1;
 
 fn main() {
     let arguments = std::env::args()
@@ -38,7 +42,7 @@ fn main() {
     let seconds = begun.elapsed().as_secs_f64();
     print!("{reached}");
     println!(
-        "{played} calls in {seconds:.2} s, {:.0} a second",
+        "{played} calls and tables in {seconds:.2} s, {:.0} a second",
         played as f64 / seconds
     );
     let missing = reached.missing();
@@ -90,6 +94,11 @@ fn play_sequence(random: &mut Random, kind: Kind, length: u64, reached: &mut Rea
     let mut before = state.clone();
     reached.start_sequence();
     for _ in 0..length {
+        if random.percent(TABLES) {
+            play_table(random, &profile, &mut state, reached);
+            before = state.clone();
+            continue;
+        }
         let call = random_call(random, &profile, &state);
         let answer = state.play(&call, reached);
         let step = Step {
@@ -117,7 +126,8 @@ fn play_sequence(random: &mut Random, kind: Kind, length: u64, reached: &mut Rea
     length
 }
 
-/// Plays a few steps on a state that is not sound; gives their number.
+/// Plays a few steps and a table on a state that is not sound; gives the
+/// number of the steps without the table.
 fn play_unsound(random: &mut Random, length: u64, reached: &mut Reached) -> u64 {
     let profile = Profile::new(Kind::Mixed, random);
     let before = random_unsound_state(random);
@@ -140,5 +150,83 @@ fn play_unsound(random: &mut Random, length: u64, reached: &mut Reached) -> u64 
         );
         step.check(state == before, "a refused unsound state stays");
     }
+    play_table(random, &profile, &mut state, reached);
     length
+}
+
+/// One table with what came of it, kept to be printed when a check fails.
+struct Posted<'a> {
+    before: &'a State,
+    /// With the cells as they were lent.
+    table: &'a Table,
+    code: i32,
+    answers: Vec<Answer>,
+}
+
+impl Posted<'_> {
+    /// Stops the program if the check fails.
+    fn check(&self, holds: bool, what: &str) {
+        if holds {
+            return;
+        }
+        println!("check failed: {what}");
+        println!("state before:\n{}", self.before);
+        print!("table:\n{}", self.table);
+        println!("code: {}", code_name(self.code));
+        for (answer, place) in self.answers.iter().zip(1..) {
+            println!("cell {place} afterwards: {answer}");
+        }
+        exit(1);
+    }
+
+    /// What item 2 of document 02 asks of the lengths, for a sound state.
+    fn fits(&self) -> bool {
+        let calls = self.table.calls.len();
+        calls <= LARGEST_TABLE as usize && calls <= self.table.answers.len()
+    }
+
+    /// The calls made singly: the state, and the cells with their answers.
+    fn singly(&self) -> (State, Vec<Answer>) {
+        let mut state = self.before.clone();
+        let mut cells = self.table.answers.clone();
+        for (place, call) in self.table.calls.iter().enumerate() {
+            cells[place] = match call.number {
+                TICK => Answer::refused(E_PAR),
+                // Counted already, when the table was posted.
+                _ => state.play(call, &mut Reached::new()),
+            };
+        }
+        (state, cells)
+    }
+}
+
+/// Posts one random table on the state, sound or not. A refused table must
+/// have changed nothing, and another must equal its calls made singly.
+fn play_table(random: &mut Random, profile: &Profile, state: &mut State, reached: &mut Reached) {
+    let before = state.clone();
+    let table = random_table(random, profile, state);
+    let mut answers = table.answers.clone();
+    let code = post(state, &table.calls, &mut answers, reached);
+    let posted = Posted {
+        before: &before,
+        table: &table,
+        code,
+        answers,
+    };
+    let expected = match (before.sound(), posted.fits()) {
+        (false, _) => E_SYS,
+        (true, false) => E_PAR,
+        (true, true) => E_OK,
+    };
+    posted.check(code == expected, "the code of the table");
+    if code != E_OK {
+        let kept = posted.answers == table.answers;
+        posted.check(kept, "a refused table leaves the cells");
+        posted.check(*state == before, "a refused table leaves the state");
+        return;
+    }
+    let (single, cells) = posted.singly();
+    posted.check(posted.answers == cells, "the answers of the single calls");
+    posted.check(*state == single, "the state of the single calls");
+    posted.check(state.sound(), "the state is sound after a table");
 }

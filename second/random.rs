@@ -140,9 +140,9 @@ fn others(list: &[u32], limit: u32) -> Vec<u32> {
         .collect()
 }
 
-/// A random merge of two lists of calls: every call of both, each list in its
-/// order. With each call stands whether it is of the first list.
-pub fn random_merge(random: &mut Random, one: &[Call], two: &[Call]) -> Vec<(bool, Call)> {
+/// A random merge of two lists of calls, or of tables: every entry of both,
+/// each list in its order. With each stands whether it is of the first list.
+pub fn random_merge<T: Copy>(random: &mut Random, one: &[T], two: &[T]) -> Vec<(bool, T)> {
     let (mut first, mut second) = (one.iter(), two.iter());
     let mut merge = Vec::new();
     while merge.len() < one.len() + two.len() {
@@ -153,7 +153,7 @@ pub fn random_merge(random: &mut Random, one: &[Call], two: &[Call]) -> Vec<(boo
         } else {
             second.next()
         };
-        merge.extend(next.map(|call| (is_first, *call)));
+        merge.extend(next.map(|entry| (is_first, *entry)));
     }
     merge
 }

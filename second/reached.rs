@@ -1,5 +1,5 @@
-//! Which rows of the error table and which paths of the calls a run reached.
-//! Nothing here has an influence on an answer or on the state.
+//! Which rows of the error table and which paths of the calls and tables a run
+//! reached. Nothing here has an influence on an answer or on the state.
 
 use crate::errors::*;
 use crate::state::*;
@@ -173,6 +173,22 @@ paths! {
     RefMbxWithWaiter: "ref_mbx with a head waiter",
     RefMbxWithMessage: "ref_mbx with a head message",
     RefMbxEmpty: "ref_mbx without waiter and message",
+    TableUnsound: "table E_SYS: state not sound",
+    TableUnsoundEmpty: "table E_SYS: state not sound, table empty",
+    TableUnsoundTooLong: "table E_SYS: state not sound, and more than 64 records",
+    TableUnsoundShort: "table E_SYS: state not sound, and too few answer cells",
+    TableTooLong: "table E_PAR: more than 64 records, enough answer cells",
+    TableOf65: "table E_PAR: 65 records, enough answer cells",
+    TableShort: "table E_PAR: too few answer cells, 64 records or less",
+    TableTooLongShort: "table E_PAR: more than 64 records, and too few answer cells",
+    TableEmpty: "table E_OK: empty",
+    TableOf64: "table E_OK: 64 records",
+    TableCellForEach: "table E_OK: as many answer cells as records, not empty",
+    TableCellsPast: "table E_OK: answer cells past the last call",
+    TableNumberZero: "table record E_PAR: call number 0",
+    TableUnknownNumber: "table record E_PAR: call number above 23",
+    TableCallWaits: "table record waits",
+    TableGoesOn: "table record accepted after a refused one",
 }
 
 const ACCEPTED: [Path; 24] = [
@@ -405,6 +421,32 @@ impl Reached {
             E_DLT => self.note(Path::FetchDeleted),
             _ => self.note(Path::FetchOk),
         }
+    }
+
+    /// A table of so many calls and answer cells was refused with this code.
+    pub(crate) fn table_refused(&mut self, code: i32, calls: usize, cells: usize) {
+        let limit = LARGEST_TABLE as usize;
+        let long = calls > limit;
+        let short = cells < calls;
+        if code == E_SYS {
+            self.note(Path::TableUnsound);
+            self.note_if(calls == 0, Path::TableUnsoundEmpty);
+            self.note_if(long, Path::TableUnsoundTooLong);
+            self.note_if(short, Path::TableUnsoundShort);
+            return;
+        }
+        self.note_if(long && !short, Path::TableTooLong);
+        self.note_if(calls == limit + 1 && !short, Path::TableOf65);
+        self.note_if(short && !long, Path::TableShort);
+        self.note_if(long && short, Path::TableTooLongShort);
+    }
+
+    /// A table of so many calls and answer cells was answered E_OK.
+    pub(crate) fn table_taken(&mut self, calls: usize, cells: usize) {
+        self.note_if(calls == 0, Path::TableEmpty);
+        self.note_if(calls == LARGEST_TABLE as usize, Path::TableOf64);
+        self.note_if(calls > 0 && cells == calls, Path::TableCellForEach);
+        self.note_if(cells > calls, Path::TableCellsPast);
     }
 }
 

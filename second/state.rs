@@ -15,6 +15,8 @@ pub const LARGEST_PRIORITY: u32 = 16;
 pub const LARGEST_TMOUT: u32 = 2_147_483_646;
 /// A sound end tick is at most so many ticks away: item 1 of document 02.
 pub const FARTHEST_END: u32 = 2_147_483_647;
+/// Most records of a table: item 2 of document 02.
+pub const LARGEST_TABLE: u32 = 64;
 
 /// The call numbers of the table "The calls, by number".
 pub const TICK: u32 = 0;

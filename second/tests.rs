@@ -1,5 +1,5 @@
 //! The paper's sixteen runs, and some cases around them. Item 1 of document 02
-//! amends runs 10 and 11.
+//! amends runs 10 and 11. The tables of its item 2 come last.
 
 use crate::*;
 
@@ -779,5 +779,437 @@ fn messages_by_arrival() {
     assert!(run.state.mailbox(2).messages.iter().all(kept));
     for message in [3, 1, 2] {
         run.gives(PRCV_MBX, 0, 2, 0, [message, 0, 0]);
+    }
+}
+
+impl Run {
+    /// Posts the calls with so many cells; gives the code and the cells. The
+    /// marks are always the same, so a caller can ask which have stayed.
+    fn post(&mut self, calls: &[Call], cells: usize) -> (i32, Vec<Answer>) {
+        let mut answers = marks(cells);
+        let code = post(&mut self.state, calls, &mut answers, &mut self.reached);
+        (code, answers)
+    }
+
+    /// A table that gives E_OK and these answers. It has three cells more than
+    /// calls, which stay as they are.
+    fn posts(&mut self, calls: &[Call], answers: &[Answer]) {
+        let cells = calls.len() + 3;
+        let expected = [answers, &marks(cells)[calls.len()..]].concat();
+        assert_eq!(self.post(calls, cells), (E_OK, expected));
+        assert_eq!(self.state.fault(), None);
+    }
+
+    /// A refused table: nothing is done and the cells keep their marks.
+    fn post_refused(&mut self, calls: &[Call], cells: usize, code: i32) {
+        let before = self.state.clone();
+        assert_eq!(self.post(calls, cells), (code, marks(cells)));
+        assert_eq!(self.state, before);
+    }
+}
+
+fn marks(cells: usize) -> Vec<Answer> {
+    random_marks(&mut Random::new(6), cells)
+}
+
+/// As many psnd_dtq of task 1 to queue 1, which has room for two words.
+fn sends(count: u32) -> Vec<Call> {
+    (1..=count).map(|word| call(PSND_DTQ, 1, 1, word)).collect()
+}
+
+/// The answers to `sends` from the start of the runs.
+fn sends_answered(count: usize) -> Vec<Answer> {
+    let mut answers = vec![Answer::refused(E_TMOUT); count];
+    answers[..count.min(2)].fill(Answer::done(0, 0, 0));
+    answers
+}
+
+/// Run 4 as one table, with run 2's fetch at its end.
+#[test]
+fn table_of_a_run() {
+    let calls = [
+        call(SND_DTQ, 1, 1, 10),
+        call(SND_DTQ, 1, 1, 11),
+        call(SND_DTQ, 1, 1, 12),
+        call(FSND_DTQ, 2, 1, 13),
+        call(REF_DTQ, 0, 1, 0),
+        call(PRCV_DTQ, 2, 1, 0),
+        call(PRCV_DTQ, 2, 1, 0),
+        call(PRCV_DTQ, 2, 1, 0),
+        call(FETCH, 0, 1, 0),
+    ];
+    let expected = [
+        Answer::done(0, 0, 0),
+        Answer::done(0, 0, 0),
+        Answer::Waits { place: 0 },
+        Answer::done(0, 0, 0),
+        Answer::done(1, 0, 2),
+        Answer::done(11, 0, 0),
+        Answer::done(13, 0, 0),
+        Answer::done(12, 0, 0),
+        Answer::done(0, 0, 0),
+    ];
+    let mut run = Run::start();
+    run.posts(&calls, &expected);
+    let mut single = Run::start().state;
+    assert_eq!(answers(&mut single, &calls), expected);
+    assert_eq!(run.state, single);
+}
+
+/// The state is asked before the lengths, and of an empty table too.
+#[test]
+fn table_on_an_unsound_state() {
+    let mut run = Run::start();
+    run.state.tasks[4].priority = 17;
+    for (count, cells) in [(0, 0), (0, 3), (1, 1), (3, 2), (64, 64), (65, 65), (65, 0)] {
+        run.post_refused(&sends(count), cells, E_SYS);
+    }
+    // Even where every record would be refused at step 0.
+    run.post_refused(&[call(TICK, 0, 0, 0), call(24, 0, 0, 0)], 2, E_SYS);
+    assert_eq!(run.reached.count(Path::TableUnsound), 8);
+    assert_eq!(run.reached.count(Path::TableUnsoundEmpty), 2);
+    assert_eq!(run.reached.count(Path::TableUnsoundTooLong), 2);
+    assert_eq!(run.reached.count(Path::TableUnsoundShort), 2);
+    // No record was played.
+    assert_eq!(run.reached.count(Path::UnsoundCall), 0);
+    assert_eq!(run.reached.count(Path::TableNumberZero), 0);
+}
+
+/// Up to 64 records are taken; one more and none of them is played.
+#[test]
+fn table_lengths_at_the_limit() {
+    for count in [1, 2, 63, 64] {
+        Run::start().posts(&sends(count), &sends_answered(count as usize));
+    }
+    let mut run = Run::start();
+    for (count, cells) in [(65, 65), (65, 64), (65, 100), (66, 66), (1_000, 1_000)] {
+        run.post_refused(&sends(count), cells, E_PAR);
+    }
+    assert!(run.state.queue(1).words.is_empty());
+    assert_eq!(run.reached.count(Path::TableTooLong), 4);
+    assert_eq!(run.reached.count(Path::TableOf65), 2);
+    assert_eq!(run.reached.count(Path::TableTooLongShort), 1);
+}
+
+/// With fewer cells than calls nothing is done, not even what has a cell.
+#[test]
+fn table_with_too_few_cells() {
+    for count in [1, 2, 5, 63, 64] {
+        let mut run = Run::start();
+        for cells in 0..count as usize {
+            run.post_refused(&sends(count), cells, E_PAR);
+        }
+        assert_eq!(run.reached.count(Path::TableShort), count as u64);
+        // As many cells as calls are enough.
+        let taken = run.post(&sends(count), count as usize);
+        assert_eq!(taken, (E_OK, sends_answered(count as usize)));
+        assert_eq!(run.state.queue(1).words.len(), count.min(2) as usize);
+    }
+}
+
+/// An empty table gives E_OK, with cells or without, and does nothing.
+#[test]
+fn empty_table() {
+    let mut run = Run::start();
+    let before = run.state.clone();
+    for cells in [0, 1, 64, 65, 200] {
+        assert_eq!(run.post(&[], cells), (E_OK, marks(cells)));
+        assert_eq!(run.state, before);
+    }
+    assert_eq!(run.reached.count(Path::TableEmpty), 5);
+}
+
+/// The number of cells has no limit of its own, and those past the last call
+/// keep their contents.
+#[test]
+fn cells_past_the_last_call() {
+    for cells in [3, 4, 64, 65, 200] {
+        let mut run = Run::start();
+        let (code, after) = run.post(&sends(3), cells);
+        assert_eq!((code, after.len()), (E_OK, cells));
+        assert_eq!(after[..3], sends_answered(3));
+        assert_eq!(after[3..], marks(cells)[3..]);
+    }
+}
+
+/// The records behind a refused one are played, from the state before it.
+#[test]
+fn refused_call_in_a_table() {
+    let mut locked = call(PSND_DTQ, 1, 1, 9);
+    locked.locked = true;
+    let timed = call(TRCV_DTQ, 0, 99, 0);
+    let calls = [
+        call(PSND_DTQ, 1, 1, 10),
+        locked,
+        timed,
+        call(PSND_DTQ, 33, 1, 9),
+        call(DEFINE_TASK, 0, 1, 5),
+        call(PSND_DTQ, 1, 1, 11),
+        call(PSND_DTQ, 1, 1, 12),
+        call(REF_DTQ, 0, 1, 0),
+    ];
+    let expected = [
+        Answer::done(0, 0, 0),
+        Answer::refused(E_CTX),
+        Answer::refused(E_CTX),
+        Answer::refused(E_SYS),
+        Answer::refused(E_OBJ),
+        Answer::done(0, 0, 0),
+        Answer::refused(E_TMOUT),
+        Answer::done(0, 0, 2),
+    ];
+    let mut run = Run::start();
+    run.posts(&calls, &expected);
+    assert_eq!(run.state.queue(1).words, [10, 11]);
+    // Both calls that were accepted behind a refused one.
+    assert_eq!(run.reached.count(Path::TableGoesOn), 2);
+}
+
+/// A wait that a table begins refuses the task's next record, and one that it
+/// ends lets the task call again.
+#[test]
+fn waits_within_a_table() {
+    let calls = [
+        call(RCV_DTQ, 1, 1, 0),
+        call(PSND_DTQ, 1, 1, 7),
+        call(PSND_DTQ, 2, 1, 8),
+        call(FETCH, 1, 1, 0),
+        call(RCV_MBX, 1, 1, 0),
+    ];
+    let expected = [
+        Answer::Waits { place: 0 },
+        Answer::refused(E_SYS),
+        Answer::done(0, 0, 0),
+        Answer::done(8, 0, 0),
+        Answer::Waits { place: 0 },
+    ];
+    let mut run = Run::start();
+    run.posts(&calls, &expected);
+    assert_eq!(run.reached.count(Path::TableCallWaits), 2);
+    // The next table finds what this one left.
+    let look = [call(LOOK, 0, 1, 0), call(FETCH, 0, 1, 0)];
+    run.posts(&look, &[Answer::done(3, 1, 0), Answer::refused(E_OBJ)]);
+}
+
+/// Number 0 in a table is refused at step 0 and is no tick: neither the
+/// counter nor a wait that the next tick ends has changed.
+#[test]
+fn number_0_in_a_table_is_no_tick() {
+    for counter in [0, u32::MAX - 1, u32::MAX] {
+        let mut run = Run::from(counter);
+        let timed = Call {
+            tmout: 1,
+            ..call(TRCV_DTQ, 1, 1, 0)
+        };
+        let (tick, look) = (call(TICK, 0, 0, 0), call(LOOK, 0, 1, 0));
+        let waiting = Answer::done(2, 1, 0);
+        let refused = Answer::refused(E_PAR);
+        run.posts(
+            &[timed, tick, look, tick, tick, look],
+            &[
+                Answer::Waits { place: 0 },
+                refused,
+                waiting,
+                refused,
+                refused,
+                waiting,
+            ],
+        );
+        assert_eq!(run.state.counter, counter);
+        run.tick(0);
+        // The wait ends with the next tick; a table does not bring it.
+        let before = run.state.clone();
+        run.posts(&[tick; 64], &[refused; 64]);
+        assert_eq!(run.state, before);
+        run.tick(1);
+        run.fetch(1, E_TMOUT, 0);
+        assert_eq!(run.state.counter, counter.wrapping_add(2));
+        assert_eq!(run.reached.count(Path::TableNumberZero), 67);
+        assert_eq!(run.reached.count(Path::AcceptedTick), 2);
+    }
+}
+
+/// Step 0 goes before the caller and the context of the record, for number 0
+/// and for unknown numbers, and what the record names is not touched.
+#[test]
+fn unknown_numbers_in_a_table() {
+    for number in [0, 24, 25, 255, 256, 65_536, u32::MAX] {
+        let mut record = call(number, 1, 1, 7);
+        let mut records = vec![record];
+        record.caller = 99;
+        records.push(record);
+        record.locked = true;
+        record.disabled = true;
+        records.push(record);
+        record.caller = 0;
+        record.object = 0;
+        record.tmout = i32::MIN;
+        records.push(record);
+        let mut run = Run::start();
+        let before = run.state.clone();
+        run.posts(&records, &[Answer::refused(E_PAR); 4]);
+        assert_eq!(run.state, before);
+        // In the middle of other calls.
+        let calls = [
+            call(PSND_DTQ, 1, 1, 10),
+            record,
+            call(PSND_DTQ, 1, 1, 11),
+            call(REF_DTQ, 0, 1, 0),
+        ];
+        let done = Answer::done(0, 0, 0);
+        let refused = Answer::refused(E_PAR);
+        run.posts(&calls, &[done, refused, done, Answer::done(0, 0, 2)]);
+        assert_eq!(run.state.queue(1).words, [10, 11]);
+    }
+}
+
+/// The calls of a table made singly, as far as it has no more than 64 and a
+/// cell for each; else none. Number 0 is not played.
+fn single_answers(state: &mut State, table: &Table) -> Vec<Answer> {
+    let calls = match table.calls.len() {
+        count if count > 64 || count > table.answers.len() => &[],
+        _ => &table.calls[..],
+    };
+    let mut reached = Reached::new();
+    let mut single = |call: &Call| match call.number {
+        0 => Answer::refused(E_PAR),
+        _ => state.play(call, &mut reached),
+    };
+    calls.iter().map(&mut single).collect()
+}
+
+/// The answers and the state are those of the calls made singly, from any
+/// sound state; of a refused table all stays as it was.
+#[test]
+fn random_tables_and_single_calls() {
+    let mut random = Random::new(7);
+    for turn in 0..2_200 {
+        let profile = Profile::new(KINDS[turn % KINDS.len()], &mut random);
+        let mut state = profile.start(&mut random);
+        let mut single = state.clone();
+        let table = random_table(&mut random, &profile, &state);
+        let mut cells = table.answers.clone();
+        let code = post(&mut state, &table.calls, &mut cells, &mut Reached::new());
+        let expected = single_answers(&mut single, &table);
+        let (answered, kept) = cells.split_at(expected.len());
+        assert_eq!(answered, expected, "{table}");
+        assert_eq!(kept, &table.answers[expected.len()..], "{table}");
+        assert_eq!(state, single, "{table}");
+        assert_eq!(state.fault(), None);
+        let done = expected.len() == table.calls.len();
+        assert_eq!(code, if done { E_OK } else { E_PAR });
+    }
+}
+
+/// Random tables are made for unsound states too, and are refused there.
+#[test]
+fn random_tables_on_unsound_states() {
+    let mut random = Random::new(8);
+    for turn in 0..1_100 {
+        let profile = Profile::new(KINDS[turn % KINDS.len()], &mut random);
+        let start = random_unsound_state(&mut random);
+        let table = random_table(&mut random, &profile, &start);
+        let (mut state, mut cells) = (start.clone(), table.answers.clone());
+        let code = post(&mut state, &table.calls, &mut cells, &mut Reached::new());
+        assert_eq!((code, cells), (E_SYS, table.answers));
+        assert_eq!(state, start);
+    }
+}
+
+/// Every length up to 66 occurs, those next to a limit often; so do fewer, as
+/// many and more cells, and number 0 and unknown numbers, also without ticks.
+#[test]
+fn random_tables_have_all_lengths() {
+    let mut random = Random::new(10);
+    let (mut lengths, mut kinds) = ([0; 67], [0; 3]);
+    let (mut zero, mut unknown, mut records) = (0, 0, 0);
+    let (own, _) = Own::split(&mut random);
+    let profile = Profile::restricted(Kind::Mixed, own);
+    let state = random_sound_state(&mut random);
+    for _ in 0..3_000 {
+        let table = random_table(&mut random, &profile, &state);
+        let (calls, cells) = (table.calls.len(), table.answers.len());
+        lengths[calls] += 1;
+        let kind = (cells >= calls) as usize + (cells > calls) as usize;
+        kinds[kind] += 1;
+        records += calls;
+        zero += table.calls.iter().filter(|call| call.number == 0).count();
+        unknown += table.calls.iter().filter(|call| call.number > 23).count();
+    }
+    assert!(lengths.iter().all(|&count| count > 0));
+    for length in [0, 1, 63, 64, 65, 66] {
+        assert!(lengths[length] > 100, "{length}: {}", lengths[length]);
+    }
+    assert!(kinds.iter().all(|&count| count > 750), "{kinds:?}");
+    assert!(zero > records / 100 && unknown > records / 100);
+}
+
+/// No mark equals another one or an answer that a call can have.
+#[test]
+fn marks_are_different() {
+    let mut random = Random::new(11);
+    for _ in 0..100 {
+        let marks = random_marks(&mut random, 80);
+        for (place, mark) in marks.iter().enumerate() {
+            assert!(!marks[..place].contains(mark));
+            assert!(match *mark {
+                Answer::Waits { place } => place > 31,
+                Answer::Finished { code, .. } => code_name(code).starts_with("unknown"),
+            });
+        }
+    }
+}
+
+/// Tables that a guided sequence posted, from an empty state.
+fn own_tables(random: &mut Random, profile: &Profile) -> Vec<Table> {
+    let mut state = State::empty(0);
+    let mut tables = Vec::new();
+    for _ in 0..20 {
+        let table = random_table(random, profile, &state);
+        table_answers(&mut state, &table);
+        tables.push(table);
+    }
+    tables
+}
+
+/// Posts a table for demand 3, where a refused one counts as no call.
+fn table_answers(state: &mut State, table: &Table) -> Vec<Answer> {
+    let mut cells = table.answers.clone();
+    let code = post(state, &table.calls, &mut cells, &mut Reached::new());
+    cells.truncate(if code == E_OK { table.calls.len() } else { 0 });
+    cells
+}
+
+/// Two carriers that share nothing do not notice each other's tables. What is
+/// compared with a merge of tables is the single calls of each carrier: a
+/// table counts as its calls in a row, and number 0 in it is no tick.
+#[test]
+fn merges_of_tables() {
+    let mut random = Random::new(12);
+    for turn in 0..44 {
+        let (mut one, mut two) = Own::split(&mut random);
+        one.cut(6, 2, 5);
+        two.cut(6, 2, 5);
+        let kind = KINDS[turn % KINDS.len()];
+        let first = own_tables(&mut random, &Profile::restricted(kind, one));
+        let second = own_tables(&mut random, &Profile::restricted(kind, two));
+        let (mut alone, mut merged) = (State::empty(0), State::empty(0));
+        let mut singly = |table: &Table| single_answers(&mut alone, table);
+        let first_answers: Vec<Answer> = first.iter().flat_map(&mut singly).collect();
+        let second_answers: Vec<Answer> = second.iter().flat_map(&mut singly).collect();
+        let first: Vec<&Table> = first.iter().collect();
+        let second: Vec<&Table> = second.iter().collect();
+        let (mut of_first, mut of_second) = (Vec::new(), Vec::new());
+        for (is_first, table) in random_merge(&mut random, &first, &second) {
+            let answers = table_answers(&mut merged, table);
+            match is_first {
+                true => of_first.extend(answers),
+                false => of_second.extend(answers),
+            }
+        }
+        assert_eq!(of_first, first_answers);
+        assert_eq!(of_second, second_answers);
+        assert!(alone.equal(&merged));
+        assert_eq!(merged.counter, 0);
     }
 }

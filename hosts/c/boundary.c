@@ -1,7 +1,7 @@
 /*
- * Tests the boundary between a host in C and the library: the layout, bad pointers and numbers, records that aren't sound, what calls write, and
- * hosts/runs through the header. `boundary FOLDER` reads the runs from that folder. The last line is 'N checks, M failed'; the exit status is 1 where
- * one failed.
+ * Tests the boundary between a host in C and the library: the layout, bad pointers and numbers, records that aren't sound, what calls write, tables
+ * of calls, and hosts/runs through the header. `boundary FOLDER` reads the runs from that folder. The last line is 'N checks, M failed'; the exit
+ * status is 1 where one failed.
  */
 #define _DEFAULT_SOURCE /* for mmap and sigaction, which C11 alone doesn't have */
 #include <inttypes.h>
@@ -191,15 +191,15 @@ static void spoil_unused(LinguastelRecord *record)
     record->spare = noise_byte();
 }
 
-/* ---- A record that may only be read ---- */
+/* ---- Memory that may only be read, or not past its edge ---- */
 
-/* The record stands at the start or at the end of a page. The pages on either side may not even be read. */
+/* What is lent stands at the start or at the end of a page. The pages on either side may not even be read. */
 typedef enum { AT_START, AT_END } Place;
 
-static uint8_t *page;
+static uint8_t *record_page, *calls_page, *cells_page;
 static size_t page_size;
 
-static void make_page(void)
+static uint8_t *new_page(void)
 {
     page_size = (size_t)sysconf(_SC_PAGESIZE);
     void *pages = mmap(NULL, 3 * page_size, PROT_NONE, MAP_PRIVATE | MAP_ANONYMOUS, -1, 0);
@@ -207,10 +207,10 @@ static void make_page(void)
         perror("mmap");
         exit(EXIT_FAILURE);
     }
-    page = (uint8_t *)pages + page_size;
+    return (uint8_t *)pages + page_size;
 }
 
-static void allow(int access)
+static void allow(uint8_t *page, int access)
 {
     if (mprotect(page, page_size, access) != 0) {
         perror("mprotect");
@@ -218,13 +218,18 @@ static void allow(int access)
     }
 }
 
+static void *lend(uint8_t *page, Place place, int access, const void *content, size_t size)
+{
+    void *lent = page + (place == AT_END ? page_size - size : 0);
+    allow(page, PROT_READ | PROT_WRITE);
+    memcpy(lent, content, size);
+    allow(page, access);
+    return lent;
+}
+
 static LinguastelRecord *read_only(const LinguastelRecord *content, Place place)
 {
-    void *lent = page + (place == AT_END ? page_size - sizeof *content : 0);
-    allow(PROT_READ | PROT_WRITE);
-    memcpy(lent, content, sizeof *content);
-    allow(PROT_READ);
-    return lent;
+    return lend(record_page, place, PROT_READ, content, sizeof *content);
 }
 
 static sigjmp_buf back;
@@ -235,8 +240,8 @@ static void go_back(int number)
     siglongjmp(back, 1);
 }
 
-/* Whether the call touches memory that it may not touch; it has no answer then. */
-static bool is_caught(LinguastelRecord *lent, LinguastelCall call, LinguastelAnswer *answer)
+/* Whether the act touches memory that it may not touch; it isn't finished then. */
+static bool is_caught(void (*act)(void *), void *with)
 {
     struct sigaction catch, before;
     memset(&catch, 0, sizeof catch);
@@ -244,26 +249,107 @@ static bool is_caught(LinguastelRecord *lent, LinguastelCall call, LinguastelAns
     sigaction(SIGSEGV, &catch, &before);
     volatile bool caught = true;
     if (sigsetjmp(back, 1) == 0) {
-        *answer = linguastel_call(lent, call);
+        act(with);
         caught = false;
     }
     sigaction(SIGSEGV, &before, NULL);
     return caught;
 }
 
+typedef struct {
+    LinguastelRecord *record;
+    LinguastelCall call;
+    LinguastelAnswer answer;
+} Single;
+
+static void make_single(void *with)
+{
+    Single *single = with;
+    single->answer = linguastel_call(single->record, single->call);
+}
+
 /* The call gives this answer and writes nothing into such a record. */
 static void check_writes_nothing(const LinguastelRecord *record, LinguastelCall call, LinguastelAnswer expected, const char *what)
 {
     for (Place place = AT_START; place <= AT_END; place++) {
-        LinguastelAnswer answer = { 0 };
-        check(!is_caught(read_only(record, place), call, &answer), what);
-        check(same_answer(answer, expected), what);
+        Single single = { .record = read_only(record, place), .call = call };
+        check(!is_caught(make_single, &single), what);
+        check(same_answer(single.answer, expected), what);
     }
 }
 
 static bool only_reads(uint32_t number)
 {
     return number == LINGUASTEL_REF_DTQ || number == LINGUASTEL_REF_MBX || number == LINGUASTEL_LOOK || number == LINGUASTEL_FETCH;
+}
+
+/* ---- Tables of calls ---- */
+
+/* Two calls more than a table may have, and two cells more than that. */
+enum { MOST_CALLS = LINGUASTEL_TABLE + 2, MOST_CELLS = MOST_CALLS + 2 };
+
+typedef struct {
+    LinguastelCall calls[MOST_CALLS];
+    LinguastelAnswer cells[MOST_CELLS];
+    /* What is handed over of them. */
+    size_t call_count;
+    size_t cell_count;
+} Table;
+
+/* Every byte of calls and answers belongs to a field. */
+static bool same_calls(const Table *x, const Table *y)
+{
+    return memcmp(x->calls, y->calls, sizeof x->calls) == 0;
+}
+
+static bool same_cells_from(size_t first, const Table *x, const Table *y)
+{
+    return memcmp(&x->cells[first], &y->cells[first], (MOST_CELLS - first) * sizeof x->cells[0]) == 0;
+}
+
+/* Noise in all cells, so that it shows which of them are written. */
+static int32_t hand_over(LinguastelRecord *record, Table *table, Table *before)
+{
+    fill_with_noise(table->cells, sizeof table->cells);
+    *before = *table;
+    return linguastel_table(record, table->calls, table->call_count, table->cells, table->cell_count);
+}
+
+/* Nothing is done: record, calls and cells keep every byte. */
+static void check_table_refused(const LinguastelRecord *content, Table *table, int32_t code, const char *what)
+{
+    LinguastelRecord record = *content;
+    Table before;
+    check(hand_over(&record, table, &before) == code, what);
+    check(same_record(&record, content), what);
+    check(same_calls(table, &before), what);
+    check(same_cells_from(0, table, &before), what);
+}
+
+/* Number 0 is no tick in a table. */
+static LinguastelAnswer make_singly(LinguastelRecord *record, LinguastelCall call)
+{
+    return call.number == LINGUASTEL_TICK ? linguastel_refusal(LINGUASTEL_E_PAR) : linguastel_call(record, call);
+}
+
+/* Answers are those of the calls made singly on the twin, which means the same as the record; the other cells keep every byte. */
+static void check_table_answered(LinguastelRecord *record, LinguastelRecord *twin, Table *table, const char *what)
+{
+    Table before;
+    check(hand_over(record, table, &before) == LINGUASTEL_E_OK, what);
+    for (size_t i = 0; i < table->call_count; i++) {
+        check(same_answer(table->cells[i], make_singly(twin, table->calls[i])), what);
+    }
+    check(same_calls(table, &before), what);
+    check(same_cells_from(table->call_count, table, &before), what);
+}
+
+/* The record comes from the empty one: it is that of the calls made singly even byte for byte. */
+static void check_table_made(LinguastelRecord *record, Table *table, const char *what)
+{
+    LinguastelRecord twin = *record;
+    check_table_answered(record, &twin, table, what);
+    check(same_record(record, &twin), what);
 }
 
 /* ---- Groups: layout and pointers ---- */
@@ -308,6 +394,59 @@ static void test_neighbours(void)
     check(all_are(memory.after, sizeof memory.after, 0xA5), "the bytes after the record");
 }
 
+/* Pointers to a table: null, aligned, and by so many bytes misaligned. */
+enum { NO_POINTER, ALIGNED, BY_1, BY_2, BY_3, POINTERS };
+
+static void *pointer_to(void *memory, unsigned kind)
+{
+    return kind == NO_POINTER ? NULL : (uint8_t *)memory + (kind - ALIGNED);
+}
+
+static bool leads_to_table(unsigned kind, size_t count)
+{
+    return kind == ALIGNED || (kind == NO_POINTER && count == 0);
+}
+
+/* With these pointers and counts. E_SYS comes first, where the record's pointer leads to no sound record. The calls' answers are E_ID. */
+static void check_guarded_table(LinguastelRecord *record, bool sound, unsigned of_calls, size_t call_count, unsigned of_cells, size_t cell_count)
+{
+    Table table = { .calls = { { .number = LINGUASTEL_LOOK }, { .number = LINGUASTEL_LOOK } } };
+    fill_with_noise(table.cells, sizeof table.cells);
+    Table before = table;
+    bool fit = leads_to_table(of_calls, call_count) && leads_to_table(of_cells, cell_count) && call_count <= cell_count;
+    int32_t expected = !sound ? LINGUASTEL_E_SYS : fit ? LINGUASTEL_E_OK : LINGUASTEL_E_PAR;
+    int32_t code = linguastel_guarded_table(record, pointer_to(table.calls, of_calls), call_count, pointer_to(table.cells, of_cells), cell_count);
+    check(code == expected, "the code of a guarded table");
+    size_t made = expected == LINGUASTEL_E_OK ? call_count : 0;
+    for (size_t i = 0; i < made; i++) {
+        check_refused(table.cells[i], LINGUASTEL_E_ID, "the answer in a guarded table");
+    }
+    check(same_calls(&table, &before), "the calls of a guarded table");
+    check(same_cells_from(made, &table, &before), "the cells past the calls of a guarded table");
+}
+
+static void check_guarded_tables(LinguastelRecord *record, bool sound)
+{
+    for (unsigned i = 0; i < POINTERS * POINTERS; i++) {
+        for (size_t counts = 0; counts < 9; counts++) {
+            check_guarded_table(record, sound, i % POINTERS, counts % 3, i / POINTERS, counts / 3);
+        }
+    }
+}
+
+static void test_table_pointers(void)
+{
+    LinguastelRecord record, unsound;
+    make_typical(&record);
+    LinguastelRecord before = record;
+    check_guarded_tables(&record, true);
+    check(same_record(&record, &before), "the record");
+    fill_with_noise(&unsound, sizeof unsound);
+    before = unsound;
+    check_guarded_tables(&unsound, false);
+    check(same_record(&unsound, &before), "the record that isn't sound");
+}
+
 static void check_no_record(LinguastelRecord *pointer)
 {
     check_refused(linguastel_guarded_call(pointer, (LinguastelCall){ .number = LINGUASTEL_TICK }), LINGUASTEL_E_SYS, "number 0");
@@ -318,19 +457,23 @@ static void check_no_record(LinguastelRecord *pointer)
     check_refused(linguastel_iref_mbx(pointer, 1), LINGUASTEL_E_SYS, "an i-form");
     check(!linguastel_guarded_empty(pointer), "empty");
     check(!linguastel_guarded_sound(pointer), "sound");
+    check_guarded_tables(pointer, false);
 }
 
+/* Behind a misaligned pointer stands a sound record, so that nothing but the pointer is wrong. */
 static void test_pointers(void)
 {
     static _Alignas(LinguastelRecord) uint8_t memory[LINGUASTEL_RECORD_SIZE + LINGUASTEL_RECORD_ALIGN];
     static uint8_t before[sizeof memory];
-    fill_with_noise(memory, sizeof memory);
-    memcpy(before, memory, sizeof memory);
+    LinguastelRecord record;
+    make_typical(&record);
     check_no_record(NULL);
     for (size_t offset = 1; offset < LINGUASTEL_RECORD_ALIGN; offset++) {
+        memcpy(memory + offset, &record, sizeof record);
+        memcpy(before, memory, sizeof memory);
         check_no_record((LinguastelRecord *)(void *)(memory + offset));
+        check(memcmp(memory, before, sizeof memory) == 0, "no memory is touched");
     }
-    check(memcmp(memory, before, sizeof memory) == 0, "no memory is touched");
 }
 
 /* ---- Groups: numbers ---- */
@@ -385,7 +528,17 @@ static void test_locked_and_disabled(void)
 
 /* ---- Groups: records that aren't sound ---- */
 
-/* Every call of a known number is refused and writes nothing; number 0 is the tick. */
+/* E_SYS comes first: also with an empty table, with one that is too long, and with too few cells. */
+static void check_unsound_tables(const LinguastelRecord *record, const char *what)
+{
+    static const size_t counts[][2] = { { 0, 0 }, { 0, 1 }, { 1, 0 }, { 1, 1 }, { 64, 63 }, { 64, 64 }, { 65, 64 }, { 65, 65 }, { 66, 68 } };
+    for (size_t i = 0; i < LENGTH(counts); i++) {
+        Table table = { .calls = { { .number = LINGUASTEL_PSND_DTQ, .object = 1 } }, .call_count = counts[i][0], .cell_count = counts[i][1] };
+        check_table_refused(record, &table, LINGUASTEL_E_SYS, what);
+    }
+}
+
+/* Every call of a known number is refused and writes nothing; number 0 is the tick. A table is refused. */
 static void check_unsound(const LinguastelRecord *record, const char *what)
 {
     check(!linguastel_sound(record), what);
@@ -393,6 +546,7 @@ static void check_unsound(const LinguastelRecord *record, const char *what)
         LinguastelCall call = { .number = number, .object = 1, .value = 1 };
         check_writes_nothing(record, call, linguastel_refusal(LINGUASTEL_E_SYS), what);
     }
+    check_unsound_tables(record, what);
 }
 
 static void test_random_bytes(void)
@@ -497,8 +651,7 @@ typedef struct {
     const char *what;
 } Without;
 
-/* Calls that change nothing: refused ones, then those that only read. */
-static const Without without_change[] = {
+static const Without refused[] = {
     { { .number = LINGUASTEL_LAST_CALL + 1 }, LINGUASTEL_E_PAR, "E_PAR: an unknown number" },
     { { .number = LINGUASTEL_REF_DTQ, .caller = 33, .object = 1 }, LINGUASTEL_E_SYS, "E_SYS: a caller that nobody is" },
     { { .number = LINGUASTEL_SND_DTQ, .caller = 1, .object = 1 }, LINGUASTEL_E_SYS, "E_SYS: a caller that waits" },
@@ -516,6 +669,9 @@ static const Without without_change[] = {
     { { .number = LINGUASTEL_FSND_DTQ, .object = 3, .value = 5 }, LINGUASTEL_E_ILUSE, "E_ILUSE" },
     { { .number = LINGUASTEL_PSND_DTQ, .object = 2, .value = 5 }, LINGUASTEL_E_TMOUT, "E_TMOUT: a poll" },
     { { .number = LINGUASTEL_TRCV_MBX, .caller = 3, .object = 1 }, LINGUASTEL_E_TMOUT, "E_TMOUT: tmout 0" },
+};
+
+static const Without reading[] = {
     { { .number = LINGUASTEL_LOOK, .object = 1 }, LINGUASTEL_E_OK, "look" },
     { { .number = LINGUASTEL_REF_DTQ, .object = 2 }, LINGUASTEL_E_OK, "ref_dtq" },
     { { .number = LINGUASTEL_REF_MBX, .object = 2 }, LINGUASTEL_E_OK, "ref_mbx" },
@@ -525,20 +681,27 @@ static const Without without_change[] = {
     { { .number = LINGUASTEL_FETCH, .object = 7 }, LINGUASTEL_E_DLT, "fetch of a wait at what was deleted" },
 };
 
+static void check_without_change(const LinguastelRecord *various, const Without *row)
+{
+    LinguastelRecord record = *various;
+    LinguastelAnswer answer = linguastel_call(&record, row->call);
+    check(answer.kind == LINGUASTEL_FINISHED && answer.code == row->code, row->what);
+    check(same_record(&record, various), row->what);
+    check_writes_nothing(various, row->call, answer, row->what);
+}
+
 static void test_writes_nothing(void)
 {
-    LinguastelRecord various, record;
+    LinguastelRecord various;
     make_various(&various);
-    for (size_t i = 0; i < LENGTH(without_change); i++) {
-        const Without *row = &without_change[i];
-        record = various;
-        LinguastelAnswer answer = linguastel_call(&record, row->call);
-        check(answer.kind == LINGUASTEL_FINISHED && answer.code == row->code, row->what);
-        check(same_record(&record, &various), row->what);
-        check_writes_nothing(&various, row->call, answer, row->what);
+    for (size_t i = 0; i < LENGTH(refused); i++) {
+        check_without_change(&various, &refused[i]);
     }
-    LinguastelAnswer answer;
-    check(is_caught(read_only(&various, AT_START), (LinguastelCall){ .number = LINGUASTEL_TICK }, &answer), "a call that writes is caught");
+    for (size_t i = 0; i < LENGTH(reading); i++) {
+        check_without_change(&various, &reading[i]);
+    }
+    Single tick = { .record = read_only(&various, AT_START), .call = { .number = LINGUASTEL_TICK } };
+    check(is_caught(make_single, &tick), "a call that writes is caught");
 }
 
 /* Leaves this number all over the stack below the caller, where the next call has its locals; a call uses less than half of that. */
@@ -692,6 +855,268 @@ static void test_time_outs(void)
     check_tick(&record, 1, "the last tick of the longest tmout");
 }
 
+/* ---- Groups: tables of calls ---- */
+
+/* Messages 1, 2, ... to a mailbox in order of arrival: the answers are a 0, a 1, and so on. */
+static void make_sends(LinguastelRecord *record, Table *table)
+{
+    linguastel_empty(record);
+    linguastel_icre_mbx(record, 3, LINGUASTEL_TA_TFIFO, 0);
+    for (uint32_t i = 0; i < MOST_CALLS; i++) {
+        table->calls[i] = (LinguastelCall){ .number = LINGUASTEL_SND_MBX, .object = 3, .value = i + 1 };
+    }
+    fill_with_noise(table->cells, sizeof table->cells);
+}
+
+static void check_sent(const LinguastelAnswer *cells, size_t count)
+{
+    for (uint32_t i = 0; i < count; i++) {
+        check(same_answer(cells[i], (LinguastelAnswer){ .a = i }), "answer i in cell i");
+    }
+}
+
+static void check_lengths(const LinguastelRecord *content, Table *table)
+{
+    LinguastelRecord record = *content;
+    if (table->call_count <= LINGUASTEL_TABLE && table->call_count <= table->cell_count) {
+        check_table_made(&record, table, "a table that is made");
+        check_sent(table->cells, table->call_count);
+        check(linguastel_iref_mbx(&record, 3).b == (table->call_count > 0), "the calls are made");
+    } else {
+        check_table_refused(&record, table, LINGUASTEL_E_PAR, "a table that is too long, or has too few cells");
+        spoil_unused(&record);
+        check_table_refused(&record, table, LINGUASTEL_E_PAR, "the same with noise in unused fields");
+    }
+}
+
+static void test_table_lengths(void)
+{
+    static const size_t lengths[] = { 0, 1, 63, 64, 65, 66 };
+    LinguastelRecord record;
+    Table table;
+    make_sends(&record, &table);
+    for (size_t i = 0; i < LENGTH(lengths); i++) {
+        table.call_count = lengths[i];
+        for (table.cell_count = 0; table.cell_count <= MOST_CELLS; table.cell_count++) {
+            check_lengths(&record, &table);
+        }
+    }
+}
+
+/* Record and tables, each at the edge of a page. */
+typedef struct {
+    LinguastelRecord *record;
+    const LinguastelCall *calls;
+    size_t call_count;
+    LinguastelAnswer *cells;
+    size_t cell_count;
+    int32_t code;
+} Lent;
+
+/* The calls may only be read. */
+static Lent lend_table(const LinguastelRecord *record, const Table *table, size_t call_count, size_t cell_count, Place place)
+{
+    return (Lent){
+        .record = lend(record_page, place, PROT_READ | PROT_WRITE, record, sizeof *record),
+        .calls = lend(calls_page, place, PROT_READ, table->calls, call_count * sizeof table->calls[0]),
+        .call_count = call_count,
+        .cells = lend(cells_page, place, PROT_READ | PROT_WRITE, table->cells, cell_count * sizeof table->cells[0]),
+        .cell_count = cell_count,
+    };
+}
+
+static void make_table(void *with)
+{
+    Lent *lent = with;
+    lent->code = linguastel_table(lent->record, lent->calls, lent->call_count, lent->cells, lent->cell_count);
+}
+
+static void test_table_edges(void)
+{
+    LinguastelRecord record;
+    Table table;
+    make_sends(&record, &table);
+    for (size_t length = 0; length <= MOST_CALLS; length++) {
+        for (Place place = AT_START; place <= AT_END; place++) {
+            Lent lent = lend_table(&record, &table, length, length, place);
+            check(!is_caught(make_table, &lent), "no memory is touched but what is lent");
+            check(lent.code == (length <= LINGUASTEL_TABLE ? LINGUASTEL_E_OK : LINGUASTEL_E_PAR), "the code at the edge of a page");
+            check_sent(lent.cells, length <= LINGUASTEL_TABLE ? length : 0);
+        }
+    }
+    Lent short_of_calls = lend_table(&record, &table, 7, 8, AT_END);
+    short_of_calls.call_count++;
+    check(is_caught(make_table, &short_of_calls), "a call that isn't lent is caught");
+    Lent short_of_cells = lend_table(&record, &table, 8, 7, AT_END);
+    short_of_cells.cell_count++;
+    check(is_caught(make_table, &short_of_cells), "a cell that isn't lent is caught");
+}
+
+/* As a byte, 257 and 279 would be 1 and 23; in 16 bits, 65541 would be 5. */
+static const uint32_t no_calls[] = { LINGUASTEL_TICK, LINGUASTEL_LAST_CALL + 1, 255, 256, 257, 279, 65541, 4294967295 };
+
+/* Two calls that are accepted, and between them as many of this number as there is room for. The next tick would end a wait. */
+static void check_number_in_table(uint32_t number)
+{
+    LinguastelRecord record;
+    make_waiting(&record, UINT32_MAX - 1, 1);
+    check_tick(&record, 0, "the tick before the table");
+    Table table = { .call_count = LINGUASTEL_TABLE, .cell_count = LINGUASTEL_TABLE };
+    for (size_t i = 0; i < LINGUASTEL_TABLE; i++) {
+        table.calls[i] = (LinguastelCall){ .number = number, .caller = noise_below(2) * 77, .locked = noise_below(2), .object = 1, .value = 1 };
+    }
+    table.calls[0] = (LinguastelCall){ .number = LINGUASTEL_DEFINE_TASK, .object = 7, .value = 1 };
+    table.calls[LINGUASTEL_TABLE - 1] = (LinguastelCall){ .number = LINGUASTEL_SUS_TSK, .object = 7 };
+    check_table_made(&record, &table, "a table with numbers of no call");
+    for (size_t i = 1; i < LINGUASTEL_TABLE - 1; i++) {
+        check_refused(table.cells[i], LINGUASTEL_E_PAR, "the cell of a number of no call");
+    }
+    check(linguastel_ilook(&record, 7).c == 1, "the calls beside it are made");
+    check(record.counter == UINT32_MAX, "the counter");
+    check(linguastel_ilook(&record, 1).a == LINGUASTEL_RECEIVING, "no wait ends");
+    check_tick(&record, 1, "the tick after the table");
+}
+
+static void test_table_numbers(void)
+{
+    for (size_t i = 0; i < LENGTH(no_calls); i++) {
+        check_number_in_table(no_calls[i]);
+    }
+}
+
+/* At each place of a table, among calls of which the last gives the word that the one before it sent. */
+static void check_refused_in_table(const LinguastelRecord *various, const Without *row)
+{
+    static const LinguastelCall accepted[] = {
+        { .number = LINGUASTEL_CRE_DTQ, .object = 9, .value = 1 },
+        { .number = LINGUASTEL_PSND_DTQ, .object = 9, .value = 70 },
+        { .number = LINGUASTEL_PRCV_DTQ, .object = 9 },
+    };
+    for (size_t place = 0; place <= LENGTH(accepted); place++) {
+        LinguastelRecord record = *various;
+        Table table = { .call_count = LENGTH(accepted) + 1, .cell_count = MOST_CELLS };
+        for (size_t i = 0; i < table.call_count; i++) {
+            table.calls[i] = i == place ? row->call : accepted[i > place ? i - 1 : i];
+        }
+        check_table_made(&record, &table, row->what);
+        check_refused(table.cells[place], row->code, row->what);
+        size_t last = place == LENGTH(accepted) ? place - 1 : LENGTH(accepted);
+        check(same_answer(table.cells[last], (LinguastelAnswer){ .a = 70 }), row->what);
+    }
+}
+
+static void test_table_with_refused_call(void)
+{
+    LinguastelRecord various;
+    make_various(&various);
+    for (size_t i = 0; i < LENGTH(refused); i++) {
+        check_refused_in_table(&various, &refused[i]);
+    }
+}
+
+/* A task that waits can't call: the calls behind its wait are refused, those of others are made. */
+static void test_table_with_wait(void)
+{
+    LinguastelRecord record;
+    make_various(&record);
+    Table table = { .call_count = 3, .cell_count = 3 };
+    table.calls[0] = (LinguastelCall){ .number = LINGUASTEL_TRCV_DTQ, .caller = 3, .object = 3, .tmout = 4 };
+    table.calls[1] = (LinguastelCall){ .number = LINGUASTEL_REF_DTQ, .caller = 3, .object = 3 };
+    table.calls[2] = (LinguastelCall){ .number = LINGUASTEL_REF_DTQ, .object = 3 };
+    check_table_made(&record, &table, "a wait in a table");
+    check(same_answer(table.cells[0], (LinguastelAnswer){ .kind = LINGUASTEL_WAITS }), "the wait");
+    check_refused(table.cells[1], LINGUASTEL_E_SYS, "a call by the task that waits");
+    check(same_answer(table.cells[2], (LinguastelAnswer){ .b = 3 }), "a call by a handler");
+}
+
+/* All calls are refused, from this row on: the record keeps every byte. */
+static void check_table_of_refusals(const LinguastelRecord *content, size_t first, size_t count)
+{
+    LinguastelRecord record = *content;
+    Table before, table = { .call_count = count, .cell_count = count };
+    for (size_t i = 0; i < count; i++) {
+        table.calls[i] = refused[(first + i) % LENGTH(refused)].call;
+    }
+    check(hand_over(&record, &table, &before) == LINGUASTEL_E_OK, "a table of refused calls");
+    for (size_t i = 0; i < count; i++) {
+        check_refused(table.cells[i], refused[(first + i) % LENGTH(refused)].code, "the cell of a refused call");
+    }
+    check(same_record(&record, content), "the record of a table of refused calls");
+    check(same_cells_from(count, &table, &before), "the cells past refused calls");
+}
+
+static void test_tables_of_refusals(void)
+{
+    LinguastelRecord various, spoiled;
+    make_various(&various);
+    for (size_t first = 0; first < LENGTH(refused); first++) {
+        spoiled = various;
+        spoil_unused(&spoiled);
+        for (size_t count = 0; count <= LINGUASTEL_TABLE; count++) {
+            check_table_of_refusals(&various, first, count);
+            check_table_of_refusals(&spoiled, first, count);
+        }
+    }
+}
+
+/* At times a number of no call, or a context in which calls are refused. */
+static void make_random_table(Table *table)
+{
+    table->call_count = noise_below(LINGUASTEL_TABLE + 1);
+    table->cell_count = table->call_count + noise_below((uint32_t)(MOST_CELLS - table->call_count + 1));
+    for (size_t i = 0; i < table->call_count; i++) {
+        LinguastelCall call = random_call();
+        call.number = noise_below(16) == 0 ? no_calls[noise_below(LENGTH(no_calls))] : call.number;
+        call.locked = noise_below(16) == 0;
+        call.disabled = noise_below(16) == 0;
+        table->calls[i] = call;
+    }
+}
+
+/* With other bytes on the stack each time. Some records grow from the empty one, the rest go on. */
+static void test_random_tables(void)
+{
+    unsigned accepted[LINGUASTEL_LAST_CALL + 1] = { 0 }, waits = 0;
+    LinguastelRecord record;
+    Table table = { .call_count = 0 };
+    for (unsigned i = 0; i < 3000; i++) {
+        if (i < 1000 || i % 100 == 0) {
+            linguastel_empty(&record);
+        }
+        make_random_table(&table);
+        paint_stack(paints[i % 2]);
+        check_table_made(&record, &table, "a random table");
+        linguastel_tick(&record);
+        for (size_t c = 0; c < table.call_count; c++) {
+            waits += table.cells[c].kind == LINGUASTEL_WAITS;
+            if (table.calls[c].number <= LINGUASTEL_LAST_CALL) {
+                accepted[table.calls[c].number] += table.cells[c].code == LINGUASTEL_E_OK;
+            }
+        }
+    }
+    for (size_t number = 1; number < LENGTH(accepted); number++) {
+        check(accepted[number] > 0, "a call of each number is accepted");
+    }
+    check(waits > 0, "calls wait");
+}
+
+/* The record gets tables, its twin the same calls singly; they mean the same, with other noise in unused fields. */
+static void test_tables_with_noise(void)
+{
+    LinguastelRecord record, twin;
+    Table table = { .call_count = 0 };
+    make_various(&record);
+    twin = record;
+    for (unsigned i = 0; i < 3000; i++) {
+        spoil_unused(&record);
+        spoil_unused(&twin);
+        make_random_table(&table);
+        check_table_answered(&record, &twin, &table, "a random table, with noise");
+        check(same_answer(linguastel_tick(&record), linguastel_tick(&twin)), "the tick after the table");
+    }
+    check(linguastel_sound(&record), "the record is sound after all tables");
+}
+
 /* ---- Groups: the runs ---- */
 
 static const char *const call_names[] = {
@@ -768,11 +1193,13 @@ typedef struct {
     LinguastelCall call;
     char answer[16];
     uint32_t a, b, c;
+    char text[256];
 } Line;
 
-/* Whether the text is a line of a run, and not a comment or empty. */
-static bool read_line(const char *text, Line *line)
+/* Whether the line's text is one of a run, and not a comment or empty. */
+static bool read_line(Line *line)
 {
+    const char *text = line->text;
     char context[8], name[16];
     LinguastelCall call = { 0 };
     int fields = sscanf(text, "%u %" SCNu32 " %7s %15s %" SCNu32 " %" SCNu32 " %" SCNu32 " %" SCNd32 " %15s %" SCNu32 " %" SCNu32 " %" SCNu32,
@@ -801,66 +1228,122 @@ static bool answer_is(LinguastelAnswer answer, const Line *line)
 
 typedef LinguastelAnswer Way(LinguastelRecord *record, LinguastelCall call);
 
-/* Each call meets noise in all unused fields. Where it is refused or only reads, it writes nothing, not even there. */
-static void play_call(LinguastelRecord *record, Way *way, const Line *line, const char *text)
-{
-    spoil_unused(record);
-    check(linguastel_sound(record), text);
-    LinguastelRecord before = *record;
-    LinguastelAnswer answer = way(record, line->call);
-    check(answer_is(answer, line), text);
-    if (answer.code != LINGUASTEL_E_OK || only_reads(line->call.number)) {
-        check(same_record(record, &before), text);
-        check_writes_nothing(&before, line->call, answer, text);
-    }
-}
-
-static void play_line(LinguastelRecord *record, Way *way, const Line *line, const char *text)
-{
-    if (line->call.number == FROM) {
-        record->counter = line->call.value;
-    } else if (line->call.number == LEAVES) {
-        check(record->counter == line->call.value, text);
-    } else {
-        play_call(record, way, line, text);
-    }
-}
-
 static const char *folder;
 
+static Line lines[512];
+static size_t line_count;
+
 /* The file has this many runs beside run 0. */
-static void play_runs(const char *name, unsigned runs, Way *way)
+static void read_runs(const char *name, unsigned runs)
 {
-    char path[512], text[256];
+    char path[512];
     snprintf(path, sizeof path, "%s/%s", folder, name);
+    line_count = 0;
     FILE *file = fopen(path, "r");
     check(file != NULL, path);
     if (file == NULL) {
         return;
     }
+    while (line_count < LENGTH(lines) && fgets(lines[line_count].text, sizeof lines[line_count].text, file) != NULL) {
+        line_count += read_line(&lines[line_count]);
+    }
+    check(feof(file) && line_count > 0 && lines[line_count - 1].run == runs, path);
+    fclose(file);
+}
+
+/* Each call meets noise in all unused fields. Where it is refused or only reads, it writes nothing, not even there. */
+static void play_call(LinguastelRecord *record, Way *way, const Line *line)
+{
+    spoil_unused(record);
+    check(linguastel_sound(record), line->text);
+    LinguastelRecord before = *record;
+    LinguastelAnswer answer = way(record, line->call);
+    check(answer_is(answer, line), line->text);
+    if (answer.code != LINGUASTEL_E_OK || only_reads(line->call.number)) {
+        check(same_record(record, &before), line->text);
+        check_writes_nothing(&before, line->call, answer, line->text);
+    }
+}
+
+static void play_line(LinguastelRecord *record, Way *way, const Line *line)
+{
+    if (line->call.number == FROM) {
+        record->counter = line->call.value;
+    } else if (line->call.number == LEAVES) {
+        check(record->counter == line->call.value, line->text);
+    } else {
+        play_call(record, way, line);
+    }
+}
+
+static void play_runs(Way *way)
+{
     LinguastelRecord start, record;
     linguastel_empty(&start);
-    Line line;
-    unsigned run = 0;
-    while (fgets(text, sizeof text, file) != NULL) {
-        if (!read_line(text, &line)) {
-            continue;
-        }
-        if (line.run != run) {
-            run = line.run;
+    for (size_t i = 0; i < line_count; i++) {
+        if (i > 0 && lines[i].run != lines[i - 1].run) {
             record = start;
         }
-        play_line(run == 0 ? &start : &record, way, &line, text);
+        play_line(lines[i].run == 0 ? &start : &record, way, &lines[i]);
     }
-    check(run == runs, path);
-    fclose(file);
+}
+
+/* How many lines from this one on can stand in a table: calls of one run. A tick can't, nor can lines about the counter. */
+static size_t table_from(size_t first)
+{
+    size_t count = 0;
+    while (count < LINGUASTEL_TABLE && first + count < line_count && lines[first + count].run == lines[first].run
+        && lines[first + count].call.number != LINGUASTEL_TICK && lines[first + count].call.number <= LINGUASTEL_LAST_CALL) {
+        count++;
+    }
+    return count;
+}
+
+/* Once with noise in unused fields, then on the record as it comes from the empty one. */
+static void play_table(LinguastelRecord *record, size_t first, size_t count)
+{
+    Table table = { .call_count = count, .cell_count = count };
+    for (size_t i = 0; i < count; i++) {
+        table.calls[i] = lines[first + i].call;
+    }
+    LinguastelRecord spoiled = *record, twin = *record;
+    spoil_unused(&spoiled);
+    check_table_answered(&spoiled, &twin, &table, lines[first].text);
+    check_table_made(record, &table, lines[first].text);
+    for (size_t i = 0; i < count; i++) {
+        check(answer_is(table.cells[i], &lines[first + i]), lines[first + i].text);
+    }
+}
+
+/* The calls between two ticks are handed over as one table. */
+static void play_runs_as_tables(void)
+{
+    LinguastelRecord start, record;
+    linguastel_empty(&start);
+    for (size_t i = 0; i < line_count;) {
+        if (i > 0 && lines[i].run != lines[i - 1].run) {
+            record = start;
+        }
+        LinguastelRecord *played = lines[i].run == 0 ? &start : &record;
+        size_t count = table_from(i);
+        if (count > 0) {
+            play_table(played, i, count);
+        } else if (lines[i].call.number == LINGUASTEL_TICK) {
+            check(answer_is(linguastel_tick(played), &lines[i]), lines[i].text);
+        } else {
+            play_line(played, call_by_number, &lines[i]);
+        }
+        i += count > 0 ? count : 1;
+    }
 }
 
 static void play_all_ways(const char *name, unsigned runs)
 {
-    play_runs(name, runs, call_by_number);
-    play_runs(name, runs, call_by_name);
-    play_runs(name, runs, call_by_i_form);
+    read_runs(name, runs);
+    play_runs(call_by_number);
+    play_runs(call_by_name);
+    play_runs(call_by_i_form);
+    play_runs_as_tables();
 }
 
 static void test_sixteen_runs(void)
@@ -897,6 +1380,15 @@ static const struct {
     { "bytes of the stack", test_stack },
     { "the record as C sees it", test_view },
     { "time-outs", test_time_outs },
+    { "tables, long and short", test_table_lengths },
+    { "tables at the edge of a page", test_table_edges },
+    { "null and misaligned tables", test_table_pointers },
+    { "tables with numbers of no call", test_table_numbers },
+    { "tables with a refused call", test_table_with_refused_call },
+    { "a table with a wait", test_table_with_wait },
+    { "tables of refused calls", test_tables_of_refusals },
+    { "random tables", test_random_tables },
+    { "random tables, with noise in unused fields", test_tables_with_noise },
     { "the sixteen runs of document 01", test_sixteen_runs },
     { "each call, accepted", test_each_call },
     { "the error table", test_error_table },
@@ -905,7 +1397,9 @@ static const struct {
 int main(int count, char **arguments)
 {
     folder = count > 1 ? arguments[1] : "hosts/runs";
-    make_page();
+    record_page = new_page();
+    calls_page = new_page();
+    cells_page = new_page();
     for (size_t i = 0; i < LENGTH(groups); i++) {
         unsigned before = checks;
         group = groups[i].name;

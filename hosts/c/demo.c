@@ -1,4 +1,7 @@
-/* A host in C: the import tasks of two carriers. One carrier's file swells; the other carrier's words arrive all the same. */
+/*
+ * A host in C: the import tasks of two carriers hand over bursts of words, each in a table of calls. One carrier's file swells; the other carrier's words
+ * arrive all the same.
+ */
 #include <inttypes.h>
 #include <stdio.h>
 
@@ -22,20 +25,21 @@ enum { A_QUEUE = 1, B_QUEUE, LAST_QUEUE = B_QUEUE };
 
 enum { PRIORITY = 5, CAPACITY = 8, STEPS = 12 };
 
-/* Each line of carrier A's file but the first stands for so many of the line before it. */
-enum { A_LINES = 10, A_COPIES = 10 };
+/* Each line of carrier A's file but the first stands for so many of the line before it. A burst is as long as a table may be. */
+enum { A_LINES = 10, A_COPIES = 10, A_BURST = LINGUASTEL_TABLE };
 
-/* The tmout of carrier A's sends: a wait ends in the tick after so many. */
+/* The tmout of the element that carrier A's queue has no room for: its wait ends in the tick after so many. */
 enum { A_TMOUT = 2 };
 
-/* Carrier B's file; its reader empties the queue in every fourth step. */
+/* Carrier B's file. Every fourth step has a burst; the reader takes a word in each step. */
 static const uint32_t b_words[STEPS] = { 615, 640, 705, 730, 800, 830, 915, 1000, 1045, 1130, 1215, 1300 };
-enum { B_READS_EVERY = 4 };
+enum { B_BURST = 4 };
 
-/* What is done to carrier A's queue or import task in a step. Its reader takes two elements, then no more. */
+/* What is done to carrier A's queue or import task in a step. Its reader takes four elements, then no more. */
 enum event { NOTHING, A_READS, A_IS_RELEASED, A_IS_DELETED };
+enum { A_TAKES = 4 };
 
-static const enum event plan[STEPS] = { [1] = A_READS, [2] = A_READS, [6] = A_IS_RELEASED, [8] = A_IS_DELETED };
+static const enum event plan[STEPS] = { [1] = A_READS, [6] = A_IS_RELEASED, [8] = A_IS_DELETED };
 
 typedef struct {
     LinguastelRecord record;
@@ -47,7 +51,7 @@ typedef struct {
     size_t b_count;
 } Host;
 
-/* Counted, not built: the import task makes an element when it can send it. */
+/* Counted, not built: the import task makes the elements of one table at a time. */
 static uint64_t elements_of_a(void)
 {
     uint64_t elements = 1;
@@ -88,33 +92,70 @@ static void say(const char *what, LinguastelAnswer answer)
     }
 }
 
+static size_t cells_with(int32_t code, const LinguastelAnswer *answers, size_t count)
+{
+    size_t cells = 0;
+    for (size_t i = 0; i < count; i++) {
+        cells += answers[i].code == code;
+    }
+    return cells;
+}
+
+/* The table's code; where its calls were made, how many were accepted, and how many were refused like the first one that was. */
+static void say_table(const char *who, int32_t code, const LinguastelAnswer *answers, size_t count, size_t accepted)
+{
+    printf("      %s, table of %zu psnd_dtq: %s", who, count, linguastel_code_name(code));
+    if (code == LINGUASTEL_E_OK) {
+        printf(", %zu accepted", accepted);
+    }
+    if (code == LINGUASTEL_E_OK && accepted < count) {
+        int32_t refused = answers[accepted].code;
+        printf(", %zu refused with %s", cells_with(refused, answers, count), linguastel_code_name(refused));
+    }
+    printf("\n");
+}
+
 /* ---- What is done in a step ---- */
+
+/* A burst: a psnd_dtq for each word, all in one table. Gives how many were accepted: the first ones, since nobody receives meanwhile. */
+static size_t hand_over(Host *host, const char *who, uint32_t task, uint32_t queue, const uint32_t *words, size_t count)
+{
+    LinguastelCall calls[LINGUASTEL_TABLE];
+    LinguastelAnswer answers[LINGUASTEL_TABLE];
+    for (size_t i = 0; i < count; i++) {
+        calls[i] = (LinguastelCall){ .number = LINGUASTEL_PSND_DTQ, .caller = task, .object = queue, .value = words[i] };
+    }
+    int32_t code = linguastel_guarded_table(&host->record, calls, count, answers, count);
+    size_t accepted = 0;
+    while (code == LINGUASTEL_E_OK && accepted < count && is_ok(answers[accepted])) {
+        accepted++;
+    }
+    say_table(who, code, answers, count, accepted);
+    return accepted;
+}
 
 static void b_imports(Host *host, size_t step)
 {
-    linguastel_snd_dtq(&host->record, linguastel_as_task(B_IMPORT), B_QUEUE, b_words[step]);
+    if (step % B_BURST == 0) {
+        hand_over(host, "B's import task", B_IMPORT, B_QUEUE, &b_words[step], B_BURST);
+    }
 }
 
-static LinguastelAnswer b_receives(Host *host)
-{
-    return linguastel_prcv_dtq(&host->record, linguastel_as_task(B_READER), B_QUEUE);
-}
-
-/* Until the queue is empty. */
 static void b_reads(Host *host)
 {
-    LinguastelAnswer answer = b_receives(host);
-    while (is_ok(answer) && host->b_count < STEPS) {
+    LinguastelAnswer answer = linguastel_prcv_dtq(&host->record, linguastel_as_task(B_READER), B_QUEUE);
+    if (is_ok(answer)) {
         host->b_received[host->b_count++] = answer.a;
-        answer = b_receives(host);
     }
 }
 
 static void a_reads(Host *host)
 {
-    LinguastelAnswer answer = linguastel_prcv_dtq(&host->record, linguastel_as_task(A_READER), A_QUEUE);
-    say("A's reader, prcv_dtq", answer);
-    host->a_received += is_ok(answer);
+    for (int taken = 0; taken < A_TAKES; taken++) {
+        LinguastelAnswer answer = linguastel_prcv_dtq(&host->record, linguastel_as_task(A_READER), A_QUEUE);
+        say("A's reader, prcv_dtq", answer);
+        host->a_received += is_ok(answer);
+    }
 }
 
 static void happen(Host *host, enum event event)
@@ -134,39 +175,40 @@ static void happen(Host *host, enum event event)
     }
 }
 
-/* The import task is able again and learns how its wait ended. An element whose wait ended with another code than E_OK was withdrawn. */
-static void a_wakes(Host *host)
+/* The import task is able again and learns how its wait ended. Gives whether it got room; else its element was withdrawn. */
+static bool a_got_room(Host *host)
 {
     LinguastelAnswer ended = linguastel_fetch(&host->record, linguastel_as_task(A_IMPORT), A_IMPORT);
     say("A's import task, fetch", ended);
     host->element += is_ok(ended);
-    host->a_waits = false;
+    return is_ok(ended);
 }
 
-static LinguastelAnswer a_sends(Host *host)
+static void a_hands_over(Host *host)
 {
-    return linguastel_tsnd_dtq(&host->record, linguastel_as_task(A_IMPORT), A_QUEUE, host->element, A_TMOUT);
+    uint32_t elements[A_BURST];
+    for (uint32_t i = 0; i < A_BURST; i++) {
+        elements[i] = host->element + i;
+    }
+    host->element += (uint32_t)hand_over(host, "A's import task", A_IMPORT, A_QUEUE, elements, A_BURST);
 }
 
-/* Sends element after element, until one has to wait or is refused. */
+/* Hands over a burst where there may be room, then waits with the first element that was refused. */
 static void a_imports(Host *host)
 {
     if (host->a_stopped || linguastel_ilook(&host->record, A_IMPORT).a != LINGUASTEL_NO_WAIT) {
         return;
     }
-    if (host->a_waits) {
-        a_wakes(host);
+    if (!host->a_waits || a_got_room(host)) {
+        a_hands_over(host);
     }
-    LinguastelAnswer answer = a_sends(host);
-    while (is_ok(answer)) {
-        host->element++;
-        answer = a_sends(host);
-    }
-    host->a_waits = answer.kind == LINGUASTEL_WAITS;
-    host->a_stopped = !host->a_waits;
+    LinguastelAnswer answer = linguastel_tsnd_dtq(&host->record, linguastel_as_task(A_IMPORT), A_QUEUE, host->element, A_TMOUT);
     char what[64];
     snprintf(what, sizeof what, "A's import task, tsnd_dtq of element %" PRIu32, host->element);
     say(what, answer);
+    host->element += is_ok(answer);
+    host->a_waits = answer.kind == LINGUASTEL_WAITS;
+    host->a_stopped = !host->a_waits && !is_ok(answer);
 }
 
 /* ---- The picture ---- */
@@ -207,9 +249,7 @@ static void play(Host *host)
 {
     for (size_t step = 0; step < STEPS; step++) {
         b_imports(host, step);
-        if ((step + 1) % B_READS_EVERY == 0) {
-            b_reads(host);
-        }
+        b_reads(host);
         happen(host, plan[step]);
         a_imports(host);
         draw(host);
@@ -235,7 +275,8 @@ int main(void)
     printf("Carrier A's file has %d lines. Each but the first stands for %d of the line before it: ", A_LINES, A_COPIES);
     printf("%" PRIu64 " elements.\n", elements_of_a());
     printf("Carrier B's file has %d words. Each carrier has a data queue of %d words, an import task and a reader. # is a stored word.\n", STEPS, CAPACITY);
-    printf("A sends with tmout %d: what nobody takes is given up in tick %d after the call.\n\n", A_TMOUT, A_TMOUT + 1);
+    printf("A burst is one table of calls: %d elements of A, or %d words of B. What a full queue refuses stays with the import task.\n", A_BURST, B_BURST);
+    printf("A then sends the first of that with tmout %d: what nobody takes is given up in tick %d after the call.\n\n", A_TMOUT, A_TMOUT + 1);
     printf("tick  A's queue                B's queue                received: A, B\n");
     play(&host);
 

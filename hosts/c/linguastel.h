@@ -1,13 +1,20 @@
 /*
- * Linguastel for hosts in C11: the state record, the 23 calls and the tick. Document 01 says what each of them does; its words are used here.
+ * Linguastel for hosts in C11: the state record, the 23 calls, the tick, and tables of calls. Documents 01 and 02 say what each of them does; their words
+ * are used here.
  *
- * `rt staticlib linguastel` proves the library and writes target/staticlib/liblinguastel.a, for x86-64 and the System V calling convention.
+ * The library is two archives, for x86-64 and the System V calling convention. `rt staticlib linguastel` proves and writes
+ * target/staticlib/liblinguastel.a, `rt staticlib linguastel_table` target/staticlib/liblinguastel_table.a. Link the second too where linguastel_table,
+ * or its guarded form, is used; it has that function alone.
  *
- * The kernel's promise covers a record of any bytes and a call with any numbers. Some things no function can test, so they are the host's part:
+ * The kernel's promise covers a record of any bytes, a call with any numbers and tables of any length. Some things no function can test, so they are the
+ * host's part:
  *
  *   - The pointer leads to a whole record, LINGUASTEL_RECORD_SIZE bytes that may be read and written.
- *   - Calls on one record are made one after the other: a call has returned before the next one starts, in an interrupt handler too.
- *   - During a call no other thread, handler or device reads or writes the record, and no other pointer is used for it.
+ *   - Tables are whole: call_count calls that may be read, answer_count answer cells that may be written.
+ *   - The two tables and the record don't overlap.
+ *   - Calls on one record are made one after the other: a call has returned before the next one starts, in an interrupt handler too. In this list a table
+ *     counts as one call.
+ *   - During a call no other thread, handler or device reads or writes the record or the tables, and no other pointer is used for them.
  *   - Each call gets the record as the call before it left it, and not an older copy.
  *   - The context is true: who calls, and whether the CPU is locked or dispatching disabled.
  *   - Arguments fit their 32 bits. C cuts a wider number down before the kernel sees it; gcc and clang warn of that with -Wconversion.
@@ -31,6 +38,7 @@ enum {
     LINGUASTEL_LOWEST_PRIORITY = 16, /* of tasks and messages; 1 goes first */
     LINGUASTEL_LONGEST_TMOUT = 2147483646, /* in ticks of 1 ms */
     LINGUASTEL_FOREVER = -1, /* the tmout that waits without end */
+    LINGUASTEL_TABLE = 64, /* the most calls of a table */
     LINGUASTEL_RECORD_SIZE = 2232,
     LINGUASTEL_RECORD_ALIGN = 4
 };
@@ -276,7 +284,7 @@ LINGUASTEL_LAYOUT(LinguastelAnswer, 24, 4,
 #undef LINGUASTEL_LAYOUT
 #undef LINGUASTEL_FIELD
 
-/* ---- The library's functions: the pointer must be that of a record ---- */
+/* ---- The library's functions: the pointers must be those of a record and of tables ---- */
 
 size_t linguastel_record_size(void);
 size_t linguastel_record_align(void);
@@ -286,6 +294,19 @@ void linguastel_empty(LinguastelRecord *record);
 
 /* One call; number 0 is the tick. A refused call writes nothing into the record, and neither do look, ref_dtq, ref_mbx and fetch. */
 LinguastelAnswer linguastel_call(LinguastelRecord *record, LinguastelCall call);
+
+/*
+ * A table of calls in one go. E_OK: the calls were made first to last, and the answer to calls[i] is in answers[i]. Answers and record are those of the
+ * calls made singly; a refused call doesn't stop the rest. Number 0 is no tick here: like an unknown number it gets E_PAR with zero words in its cell.
+ * Answer cells past the last call keep their contents. A table without calls gives E_OK too.
+ *
+ * E_SYS: the record isn't sound. Then E_PAR: more than LINGUASTEL_TABLE calls, or fewer answer cells than calls. Either way nothing is done: the record and
+ * every answer cell keep every byte.
+ *
+ * A pointer is aligned and not null even where its count is 0; linguastel_guarded_table takes null there. The function has an archive of its own, because a
+ * second caller of the step in one archive would make both dearer.
+ */
+int32_t linguastel_table(LinguastelRecord *record, const LinguastelCall *calls, size_t call_count, LinguastelAnswer *answers, size_t answer_count);
 
 /* The tick has no context. It is no function of the library: one that called the step from a second place would make both dearer. */
 static inline LinguastelAnswer linguastel_tick(LinguastelRecord *record)
@@ -302,7 +323,7 @@ static inline bool linguastel_sound(const LinguastelRecord *record)
     return linguastel_call((LinguastelRecord *)record, (LinguastelCall){ .number = LINGUASTEL_LOOK }).code != LINGUASTEL_E_SYS;
 }
 
-/* ---- The same with a test of the pointer ---- */
+/* ---- The same with a test of the pointers ---- */
 
 /*
  * A pointer that is null or not aligned leads to no record. Document 01 has no row for it. It is answered like a state that isn't sound: E_SYS with
@@ -345,6 +366,33 @@ static inline bool linguastel_guarded_empty(LinguastelRecord *record)
 static inline bool linguastel_guarded_sound(const LinguastelRecord *record)
 {
     return linguastel_pointer_fits(record) && linguastel_sound(record);
+}
+
+/* Whether a pointer can be that of a table with this count; with count 0 it may be null. Calls and answers have the same alignment. */
+static inline bool linguastel_table_fits(const void *table, size_t count)
+{
+    return (table != NULL || count == 0) && (uintptr_t)table % _Alignof(LinguastelCall) == 0;
+}
+
+/*
+ * A pointer that is null with a count above 0, or not aligned, leads to no table. Document 02 has no row for it. It is answered like a table of a wrong
+ * length: E_PAR, after the record's test. No memory is written.
+ *
+ * Null with count 0 is a table of nothing. The library takes tables as slices, whose pointers are aligned and not null even where they hold nothing, so it
+ * is handed the pointer of a local, which it neither reads nor writes.
+ */
+static inline int32_t linguastel_guarded_table(
+    LinguastelRecord *record, const LinguastelCall *calls, size_t call_count, LinguastelAnswer *answers, size_t answer_count)
+{
+    const LinguastelCall no_call = { 0 };
+    LinguastelAnswer no_answer = { 0 };
+    if (!linguastel_pointer_fits(record)) {
+        return LINGUASTEL_E_SYS;
+    }
+    if (!linguastel_table_fits(calls, call_count) || !linguastel_table_fits(answers, answer_count)) {
+        return linguastel_sound(record) ? LINGUASTEL_E_PAR : LINGUASTEL_E_SYS;
+    }
+    return linguastel_table(record, calls != NULL ? calls : &no_call, call_count, answers != NULL ? answers : &no_answer, answer_count);
 }
 
 /* ---- Help for hosts ---- */

@@ -1,4 +1,5 @@
-// Tells cargo where the static library is: in LINGUASTEL_LIB, or where `rt staticlib linguastel` writes it.
+// Tells cargo where the library's two archives are: in LINGUASTEL_LIB, or where `rt staticlib linguastel` and `rt staticlib linguastel_table` write
+// them.
 use std::env;
 use std::path::PathBuf;
 
@@ -6,6 +7,8 @@ fn main() {
     let written = || PathBuf::from(env::var_os("CARGO_MANIFEST_DIR").unwrap_or_default()).join("../../target/staticlib");
     let folder = env::var_os("LINGUASTEL_LIB").map_or_else(written, PathBuf::from);
     println!("cargo:rerun-if-env-changed=LINGUASTEL_LIB");
-    println!("cargo:rerun-if-changed={}", folder.join("liblinguastel.a").display());
+    for archive in ["liblinguastel.a", "liblinguastel_table.a"] {
+        println!("cargo:rerun-if-changed={}", folder.join(archive).display());
+    }
     println!("cargo:rustc-link-search=native={}", folder.display());
 }

@@ -52,7 +52,7 @@ module _ {S C A : Type 0} {E : Engine S} (lawful : Lawful E) {F : Interface S C 
   same-state : (s u : S) → E .Sound s → E .Sound u → E .abs s ≡ E .abs u → E .Same s u
   same-state s u S U e = lawful .equal-states s u S U .1 e
 
-  undisturbed : (s : S) → E .Sound s → (xs ys : List C) → Separate step (E .abs s) (map (F .call-of) xs) (map (F .call-of) ys) → Undisturbed E F s xs ys
+  undisturbed : (s : S) → E .Sound s → (xs ys : List C) → Separate step (E .abs s) (map (F .call-of) xs) (map (F .call-of) ys) → Undisturbed E (F .Steps) (F .values-of) s xs ys
   undisturbed s sound xs ys h = record {
     answers-alone = λ {turns} {zs} m {x-answers = x} {y-answers = y} {z-answers = z} p q o.
         let answers : Merge turns x y z =

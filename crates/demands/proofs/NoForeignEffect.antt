@@ -10,6 +10,7 @@ use mir.Facts.{and-yes, yes-and, or-yes}
 use Rattle.lists.specs.Lists.{Each, none, both}
 use Rattle.lists.proofs.Each.{each-map}
 use Rattle.lists.specs.Options.{IfSome}
+use Rattle.rows.specs.Runs.{Run, no-call, one-call}
 use Rattle.rows.specs.Program as Program
 use Rattle.rows.specs.Program.{step-of}
 use Rattle.rows.proofs.Footprint.{Closed, keeps-closed, outside}
@@ -27,7 +28,7 @@ use Rattle.model.proofs.WellFormed.{well-formed-linked}
 use Rattle.record.specs.Step.{state-engine}
 use Rattle.record.proofs.Equal.{state-lawful}
 use Rattle.demands.specs.NoForeignEffect.{waits-at-object, may-change, NoForeignEffect}
-use Rattle.demands.specs.Runs.{Run, no-call, one-call, Interface, by-value}
+use Rattle.demands.specs.Runs.{Interface, by-value}
 use Rattle.demands.proofs.Runs.{follows, Faithful, by-value-faithful}
 
 -- ── What may change is closed ──

@@ -8,7 +8,7 @@ use native.Mathlib.Decide.{decLt}
 use lib.Dec.{T, eqb, not-T, eqb→eq, lt→ltb}
 use Rattle.lists.specs.Lists.{Each, none, both}
 use Rattle.rows.specs.Program as Program
-use Rattle.rows.specs.Runs.{end, answers}
+use Rattle.rows.specs.Runs.{end, answers, Run, no-call, one-call}
 use Rattle.rows.specs.Merges.{end-of-turns, answers-of-turns}
 use Rattle.model.specs.Sizes.{call-limit}
 use Rattle.model.specs.Rows.{Model}
@@ -26,7 +26,7 @@ use Rattle.model.proofs.Choices.{cond-yes}
 use Rattle.model.proofs.Refusals.{refusals}
 use Rattle.model.proofs.WellFormed.{kept-well-formed}
 use Rattle.record.specs.Step.{state-engine}
-use Rattle.demands.specs.Runs.{Run, no-call, one-call, RunOfTurns, no-turn, one-turn, SomeRun, SomeRunOfTurns, SomeStep, ListsRun, model-engine, ModelsRun, ModelsRunAs, Interface, by-value}
+use Rattle.demands.specs.Runs.{RunOfTurns, no-turn, one-turn, SomeRun, SomeRunOfTurns, SomeStep, ListsRun, model-engine, ModelsRun, ModelsRunAs, Interface, by-value}
 
 -- A number above 23 is unknown: the first row of the table applies.
 is-unknown : (c : Call) → call-limit < c .number → T (unknown c)

@@ -4,7 +4,7 @@ use mathlib.Core.Bool.{not}
 use mathlib.Core.List.{List, map}
 use Prim.Native.Nat.{ℕ}
 use lib.Dec.{T}
-use Rattle.rows.specs.Runs.{end}
+use Rattle.rows.specs.Runs.{end, Run, no-call, one-call}
 use Rattle.model.specs.Rows.{Model}
 use Rattle.model.specs.Codes.{values, finished}
 use Rattle.model.specs.Step.{step}
@@ -14,7 +14,7 @@ use Rattle.model.specs.declared.Call.{Call}
 use Rattle.model.proofs.StoredPair.{fetch-gives-stored-pair, fetch-gives-what-was-due}
 use Rattle.record.specs.Step.{state-engine}
 use Rattle.record.proofs.Equal.{state-lawful}
-use Rattle.demands.specs.Runs.{Run, no-call, one-call, Interface, by-value}
+use Rattle.demands.specs.Runs.{Interface, by-value}
 use Rattle.demands.specs.StoredPair.{NeverBegins, FetchGives, FetchGivesPair}
 use Rattle.demands.proofs.Runs.{follows, Faithful, by-value-faithful, run-follows}
 use Rattle.demands.proofs.Waiting.{values-as-defined, begins-as-defined}

@@ -4,6 +4,7 @@ use mathlib.Core.List.{List, map}
 use Prim.Native.Nat.{ℕ, suc}
 use lib.Dec.{T, eqb, eqb→eq}
 use mir.Facts.{and-yes}
+use Rattle.rows.specs.Runs.{Run, no-call, one-call}
 use Rattle.model.specs.Rows.{Model}
 use Rattle.model.specs.Step.{step}
 use Rattle.model.specs.Answers.{is-wait}
@@ -13,7 +14,7 @@ use Rattle.model.proofs.Endings.{ended-waits-are-due}
 use Rattle.model.proofs.TimeOuts.{no-wait-outlives-time-out, last-tick-ends-wait, tmout-0-begins-no-wait, no-wait-outlives-tmout, tick-after-tmout-ends-wait, end-tick-not-reached}
 use Rattle.record.specs.Step.{state-engine}
 use Rattle.record.proofs.Equal.{state-lawful}
-use Rattle.demands.specs.Runs.{Run, no-call, one-call, Interface, by-value}
+use Rattle.demands.specs.Runs.{Interface, by-value}
 use Rattle.demands.specs.TimeOuts.{WaitsThroughout, TimesOutInTick, BeginsWithTmoutBy, TimeOutsKept}
 use Rattle.demands.proofs.Runs.{follows, Faithful, by-value-faithful, run-follows}
 use Rattle.demands.proofs.Waiting.{begins-as-defined}

@@ -5,13 +5,14 @@ use mathlib.Core.List.{List}
 use mathlib.Core.Option.{Option·map, Option·getD}
 use lib.Dec.{T, eqb}
 use Rattle.lists.specs.Lists.{Each}
+use Rattle.rows.specs.Runs.{Run}
 use Rattle.rows.specs.Program as Program
 use Rattle.model.specs.Rows.{Key, task, suspension, queue, mailbox, message, Row}
 use Rattle.model.specs.Waits.{object-named}
 use Rattle.model.specs.Engine.{Engine}
 use Rattle.model.specs.Isolation.{Placed, CallOf, Carrier, owns, Own, Disjoint}
 use Rattle.model.specs.declared.Wait.{Wait}
-use Rattle.demands.specs.Runs.{Run, Interface}
+use Rattle.demands.specs.Runs.{Interface}
 
 -- Whether a task with this wait waits at one of the carrier's objects.
 abbrev pub waits-at-object : Carrier → Wait → Bool

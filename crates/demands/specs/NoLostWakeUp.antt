@@ -3,12 +3,13 @@ use mathlib.Core.Path.{_≡_}
 use mathlib.Core.List.{List, [], List·Memᴰ as In}
 use Prim.Native.Nat.{ℕ}
 use lib.ListN.{length}
+use Rattle.rows.specs.Runs.{Run}
 use Rattle.rows.specs.Program as Program
 use Rattle.model.specs.Rows.{task, queue, mailbox, Row}
 use Rattle.model.specs.Engine.{Engine}
 use Rattle.model.specs.declared.End.{End}
 use Rattle.model.specs.declared.Wait.the-variants.{Sending, Receiving, AtMailbox}
-use Rattle.demands.specs.Runs.{Run, Interface}
+use Rattle.demands.specs.Runs.{Interface}
 
 pub record NobodyWaitsForWhatIsThere (m : Program.Rows Row) : Type 0 where
   -- At a queue where a receiver stands there is no word and no sender.

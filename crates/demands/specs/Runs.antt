@@ -1,8 +1,8 @@
--- Document 01, "What demand 3 compares": runs. Antt can't name a step of the code, only its contract; so what is said of every run whose steps keep the
--- contract holds of the code's.
+-- Document 01, "What demand 3 compares": runs (`Run`, crate rows). A call of number 0 is the tick.
 use mathlib.Core.Path.{_≡_}
 use mathlib.Core.List.{List, [], _∷_}
 use Rattle.lists.specs.Lists.{Each}
+use Rattle.rows.specs.Runs.{Run}
 use Rattle.model.specs.Rows.{Model}
 use Rattle.model.specs.Codes.{Values, values}
 use Rattle.model.specs.Engine.{Engine, Stepped, SteppedAs}
@@ -10,15 +10,7 @@ use Rattle.model.specs.WellFormed.{WellFormed}
 use Rattle.model.specs.declared.Answer.{Answer}
 use Rattle.model.specs.declared.Call.{Call}
 
--- `Steps s c after answer` is the contract of one call: it found the record as s, handed it back or left it as `after`, and gave the answer.
--- `Run Steps s calls last answers`: the first call gets the record s, each later one the record that the call before it handed back or left; that of the last
--- call is `last`. A call of number 0 is the tick.
-pub data Run {S C A : Type 0} (Steps : S → C → S → A → Type 0) : S → List C → S → List A → Type 0 where
-  no-call : {s : S} → Run Steps s [] s []
-  one-call : {s after last : S} {c : C} {answer : A} {calls : List C} {answers : List A}
-      → Steps s c after answer → Run Steps after calls last answers → Run Steps s (c ∷ calls) last (answer ∷ answers)
-
--- The same where each call stands beside its owner, and so each answer.
+-- A run where each call stands beside its owner, and so each answer.
 pub data RunOfTurns {I S C A : Type 0} (Steps : S → C → S → A → Type 0) : S → List (I × C) → S → List (I × A) → Type 0 where
   no-turn : {s : S} → RunOfTurns Steps s [] s []
   one-turn : {s after last : S} {i : I} {c : C} {answer : A} {turns : List (I × C)} {answers : List (I × A)}

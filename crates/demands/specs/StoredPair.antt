@@ -5,10 +5,11 @@ use mathlib.Core.List.{List}
 use mathlib.Core.Option.{some}
 use Prim.Native.Nat.{ℕ}
 use lib.Dec.{T}
+use Rattle.rows.specs.Runs.{Run, no-call, one-call}
 use Rattle.model.specs.Codes.{finished-values}
 use Rattle.model.specs.Endings.{CodeAndWord, due-to, FetchOf}
 use Rattle.model.specs.Engine.{Engine}
-use Rattle.demands.specs.Runs.{Run, no-call, one-call, Interface}
+use Rattle.demands.specs.Runs.{Interface}
 use Rattle.demands.specs.Waiting.{task-in, waits-in, wait-begins-by}
 
 -- No wait of task t begins in the run: none of the task's calls in it is answered "waits".

@@ -6,6 +6,7 @@ use mathlib.Core.Option.{none, some}
 use Prim.Native.Nat.{ℕ, suc, _≤_}
 use lib.Dec.{T, eqb}
 use lib.IntN.{pos}
+use Rattle.rows.specs.Runs.{Run, no-call, one-call}
 use Rattle.model.specs.Codes.{Values}
 use Rattle.model.specs.Calls.{is-tick, has-tmout}
 use Rattle.model.specs.Waits.{wait-end}
@@ -14,7 +15,7 @@ use Rattle.model.specs.Endings.{timed-out, ended-with, ticks}
 use Rattle.model.specs.Engine.{Engine}
 use Rattle.model.specs.declared.Call.{Call}
 use Rattle.model.specs.declared.End.the-variants.{At}
-use Rattle.demands.specs.Runs.{Run, no-call, one-call, Interface}
+use Rattle.demands.specs.Runs.{Interface}
 use Rattle.demands.specs.Waiting.{task-in, waits-in, wait-begins-by}
 
 -- The wait goes on in every record of the run: task t waits in the first, in each that a call handed back or left, and so in the last.

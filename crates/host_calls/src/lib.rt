@@ -62,7 +62,7 @@ pub fn call_of(call: HostCall) -> Call
     }
 }
 
-fn number_of(code: Code) -> i32
+pub fn number_of(code: Code) -> i32
     ensures { λ r. ⌜ r ≡ number code ⌝ }
 {
     match code {

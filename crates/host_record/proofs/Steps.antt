@@ -23,11 +23,11 @@ use Rattle.kernel.proofs.Outcomes.{stepped}
 use Rattle.kernel.proofs.Arms.{nothing-done}
 use Rattle.host_record.specs.declared.HostRecord.{HostRecord}
 use Rattle.host_record.specs.Record.{state-of}
-use Rattle.host_record.specs.declared.HostJudged.{HostJudged}
+use Rattle.kernel.specs.declared.Judgement.{Judgement}
 use Rattle.host_record.specs.Step.{HostStepped, CallJudged, Said, Stored}
 use Rattle.host_record.proofs.Record.{written-means, written-readable}
 
-module _ (lent : HostRecord) {s : State} (s-is : s ≡ state-of lent) (c : HostCall) {j : HostJudged} (h : CallJudged s c j) where
+module _ (lent : HostRecord) {s : State} (s-is : s ≡ state-of lent) (c : HostCall) {j : Judgement} (h : CallJudged s c j) where
   -- What was judged of the state is so of the state that the record holds.
   judged : Judged (state-of lent) (call-of c) (j .decision)
   judged = subst (λ (u : State). Judged u (call-of c) (j .decision)) s-is (h .judged)

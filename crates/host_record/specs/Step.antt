@@ -9,13 +9,13 @@ use Rattle.decide.specs.Touches.{Touches, changed-by}
 use Rattle.decide.specs.declared.Decision.{Decision}
 use Rattle.record.specs.declared.State.{State}
 use Rattle.record.specs.declared.Step.{Step}
-use Rattle.kernel.specs.Steps.{Judged}
+use Rattle.kernel.specs.Steps.{Weighed}
+use Rattle.kernel.specs.declared.Judgement.{Judgement}
 use Rattle.model.specs.Engine.{SteppedAs}
 use Rattle.host_calls.specs.Calls.{call-of, answer-of}
 use Rattle.host_calls.specs.declared.HostAnswer.{HostAnswer}
 use Rattle.host_calls.specs.declared.HostCall.{HostCall}
 use Rattle.host_record.specs.declared.HostRecord.{HostRecord}
-use Rattle.host_record.specs.declared.HostJudged.{HostJudged}
 use Rattle.host_record.specs.Record.{host-engine}
 use Rattle.host_record.specs.Written.{Written}
 
@@ -27,9 +27,8 @@ HostStepped r c after answer = SteppedAs host-engine call-of answer-of r c after
 -- ── The parts of a call ──
 
 -- The judgement of the kernel, and whether it changes anything.
-pub record CallJudged (s : State) (c : HostCall) (j : HostJudged) : Type 0 where
-  pub judged : Judged s (call-of c) (j .decision)
-  pub changes-is : j .changes ≡ changed-by (j .decision)
+abbrev pub CallJudged : State → HostCall → Judgement → Type 0
+CallJudged s c j = Weighed s (call-of c) j
 
 -- Of a decision that changes nothing.
 abbrev pub Said : Decision → HostAnswer → Type 0

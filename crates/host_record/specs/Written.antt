@@ -8,7 +8,7 @@ use lib.ListN.{length, getD}
 use Rattle.model.specs.Rows.{task, valid}
 use Rattle.decide.specs.Touches.{every-task}
 use Rattle.parts.specs.declared.Task.{Task}
-use Rattle.host_tasks.specs.Tasks.{read-task}
+use Rattle.host_tasks.specs.Tasks.{read-task, rewrite-all}
 use Rattle.host_tasks.specs.declared.HostTask.{HostTask}
 use Rattle.record.specs.declared.State.{State}
 use Rattle.record.specs.Meaning.{zero-task}
@@ -31,3 +31,17 @@ pub record Written (before : HostRecord) (s : State) (touched : ℕ) (r : HostRe
   pub waiting : r .waiting ≡ s .waiting
   pub messages : r .messages ≡ s .messages
   pub mailboxes : r .mailboxes ≡ s .mailboxes
+
+-- ── After a table of calls ──
+
+-- The record that holds the state s: numbers of tasks that say so already stay, and so does the spare byte.
+unfoldable pub restored : HostRecord → State → HostRecord
+restored lent s = record {
+  counter = s .counter;
+  tasks = rewrite-all (lent .tasks) (s .tasks);
+  queues = s .queues;
+  waiting = s .waiting;
+  messages = s .messages;
+  mailboxes = s .mailboxes;
+  spare = lent .spare;
+}

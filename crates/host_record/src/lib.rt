@@ -3,17 +3,21 @@
 ghost use mathlib.Core.Path.{_≡_};
 ghost use Rattle.model.specs.Rows.{empty-state};
 ghost use Rattle.host_record.specs.Record.{state-of, HostSound, meaning};
+ghost use Rattle.model.specs.Codes.{number};
+ghost use Rattle.model.specs.Tables.{in-table};
+ghost use Rattle.record.specs.Sound.{Sound};
+ghost use Rattle.tables.specs.Tested.{TestedAs};
 ghost use Rattle.decide.specs.Touches.{every-task};
-ghost use Rattle.host_record.specs.Written.{TasksWritten};
+ghost use Rattle.host_record.specs.Written.{TasksWritten, restored};
 ghost use Rattle.host_record.specs.Step.{CallJudged, Said, Stored};
-ghost use Rattle.host_calls.specs.Calls.{answer-of};
-ghost use Rattle.kernel.specs.Steps.{Appliable, Applied};
+ghost use Rattle.host_calls.specs.Calls.{call-of, answer-of};
+ghost use Rattle.kernel.specs.Steps.{Weighed};
 use chain::Chains;
-use decide::Decision;
 use decide::EVERY_TASK;
 use host_calls::HostAnswer;
 use host_calls::HostCall;
 use host_tasks::HostTask;
+use kernel::Judgement;
 use parts::MAILBOX_CELLS;
 use parts::Mailbox;
 use parts::QUEUE_CELLS;
@@ -34,12 +38,6 @@ pub struct HostRecord {
     pub mailboxes: [Mailbox; MAILBOX_CELLS],
     // Says nothing, and is 0 in every record that is handed back changed.
     pub spare: u8,
-}
-
-// What a call comes to, and whether that changes anything.
-pub struct HostJudged {
-    pub decision: Decision,
-    pub changes: bool,
 }
 
 // The state that the record holds, whatever its numbers are.
@@ -127,18 +125,18 @@ pub fn empty() -> HostRecord
 // ── The parts of a call on a lent record; crate linguastel puts them together ──
 
 // What a call, or with number 0 the tick, comes to on whatever state.
-pub fn judge(state: State, call: HostCall) -> HostJudged
+pub fn judge(state: State, call: HostCall) -> Judgement
     ensures { λ r. ⌜ CallJudged state call r ⌝ }
 {
     let decision = kernel::judge(state, host_calls::call_of(call));
-    HostJudged {
+    Judgement {
         decision,
         changes: decide::changes(decision),
     }
 }
 
 // The answer of a call that changes nothing.
-pub fn said(judged: HostJudged) -> HostAnswer
+pub fn said(judged: Judgement) -> HostAnswer
     ensures { λ r. ⌜ Said (judged .decision) r ⌝ }
 {
     let decision = judged.decision;
@@ -146,17 +144,8 @@ pub fn said(judged: HostJudged) -> HostAnswer
     host_calls::answer_of(answer)
 }
 
-// The kernel's step of a call that changes something.
-pub fn apply(state: State, judged: HostJudged) -> Step
-    requires { ⌜ Appliable state (judged .decision) ⌝ }
-    ensures { λ r. ⌜ Applied state (judged .decision) r ⌝ }
-{
-    let decision = judged.decision;
-    kernel::apply(state, decision)
-}
-
 // The record that holds the new state: the tasks that the call touched are written back.
-pub fn stored(lent: HostRecord, stepped: Step, judged: HostJudged) -> HostRecord
+pub fn stored(lent: HostRecord, stepped: Step, judged: Judgement) -> HostRecord
     ensures { λ r. ⌜ Stored lent stepped (judged .decision) r ⌝ }
 {
     let decision = judged.decision;
@@ -183,4 +172,52 @@ pub fn answered(stepped: Step) -> HostAnswer
 {
     let answer = stepped.answer;
     host_calls::answer_of(answer)
+}
+
+// ── The parts of a table of calls on a lent record; crate linguastel_table puts them together ──
+
+// The code of a table, and whether its calls are made.
+pub struct HostTableTest {
+    pub code: i32,
+    pub runs: bool,
+}
+
+pub fn table_test(state: State, calls: usize, cells: usize) -> HostTableTest
+    ensures { λ r. ⌜ TestedAs number state calls cells (r .code) (r .runs) ⌝ }
+{
+    let tested = tables::test(state, calls, cells);
+    let code = tested.code;
+    HostTableTest {
+        code: host_calls::number_of(code),
+        runs: tested.runs,
+    }
+}
+
+// What a record of the table comes to on a sound state.
+pub fn table_judge(state: State, call: HostCall) -> Judgement
+    requires { ⌜ Sound state ⌝ }
+    ensures { λ r. ⌜ Weighed state (in-table (call-of call)) r ⌝ }
+{
+    tables::judge(state, host_calls::call_of(call))
+}
+
+// The record that holds the state after the last call: its tasks are written back once a table, and what they say already stays as it is.
+pub fn restored(lent: HostRecord, state: State) -> HostRecord
+    ensures { λ r. ⌜ r ≡ restored lent state ⌝ }
+{
+    let numbers = lent.tasks;
+    let tasks = state.tasks;
+    let queues = state.queues;
+    let waiting = state.waiting;
+    let messages = state.messages;
+    let mailboxes = state.mailboxes;
+    HostRecord {
+        counter: state.counter,
+        tasks: host_tasks::rewrite_all(numbers, tasks),
+        queues,
+        waiting,
+        messages,
+        mailboxes,
+        spare: lent.spare,
+    }
 }

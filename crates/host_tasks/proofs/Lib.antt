@@ -1,3 +1,4 @@
 pub mod Faithful
 pub mod Numbers
 pub mod Filling
+pub mod Rewriting

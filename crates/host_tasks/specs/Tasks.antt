@@ -1,6 +1,6 @@
 -- A task's numbers. Each reads as something; one that says nothing reads as what no sound record has, so the test of the record finds it.
-use mathlib.Core.Bool.{Bool, true, false, cond, _||_}
-use mathlib.Core.List.{[], _∷_}
+use mathlib.Core.Bool.{Bool, true, false, cond, _&&_, _||_}
+use mathlib.Core.List.{List, [], _∷_}
 use mathlib.Core.Logic.{_≢_}
 use Prim.Native.Nat.{ℕ, _≤_}
 use lib.Dec.{T, eqb, ltb}
@@ -77,3 +77,19 @@ write-task t = record {
   code = t .code;
   flags = flags-of (t .defined) (t .suspended);
 }
+
+-- ── Written over others, after a table of calls ──
+
+abbrev pub same-numbers : HostTask → HostTask → Bool
+same-numbers x y =
+    eqb (x .word) (y .word) && eqb (x .end) (y .end) && eqb (x .sending) (y .sending) && eqb (x .wait) (y .wait)
+    && eqb (x .object) (y .object) && eqb (x .timed) (y .timed) && eqb (x .code) (y .code) && eqb (x .flags) (y .flags)
+
+-- Numbers that read as the task already stay as they are, also where they say nothing.
+unfoldable pub rewritten : HostTask → Task → HostTask
+rewritten x t = cond (same-numbers (write-task t) (write-task (read-task x))) x (write-task t)
+
+unfoldable pub rewrite-all : List HostTask → List Task → List HostTask
+rewrite-all [] ts = []
+rewrite-all (x ∷ xs) [] = x ∷ xs
+rewrite-all (x ∷ xs) (t ∷ ts) = rewritten x t ∷ rewrite-all xs ts

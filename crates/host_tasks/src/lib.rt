@@ -2,7 +2,7 @@
 // program in C a tag or a Boolean is a byte that may hold anything; so every field is a number, and every number is read as something.
 ghost use mathlib.Core.Path.{_≡_};
 ghost use mathlib.Core.List.{map};
-ghost use Rattle.host_tasks.specs.Tasks.{read-end, wait-of, defined-by, suspended-by, read-task, timed-of, tick-of, flags-of, write-task};
+ghost use Rattle.host_tasks.specs.Tasks.{read-end, wait-of, defined-by, suspended-by, read-task, timed-of, tick-of, flags-of, write-task, same-numbers, rewritten, rewrite-all};
 use model::End;
 use model::Wait;
 use parts::TASK_CELLS;
@@ -158,4 +158,44 @@ pub fn write_task(task: Task) -> HostTask
         code: task.code,
         flags: flags_of(task.defined, task.suspended),
     }
+}
+
+fn same_numbers(x: HostTask, y: HostTask) -> bool
+    ensures { λ r. ⌜ r ≡ same-numbers x y ⌝ }
+{
+    (x.word == y.word)
+        & (x.end == y.end)
+        & (x.sending == y.sending)
+        & (x.wait == y.wait)
+        & (x.object == y.object)
+        & (x.timed == y.timed)
+        & (x.code == y.code)
+        & (x.flags == y.flags)
+}
+
+// The numbers of a task, written over others. Those that read as the task already stay: a table of which all calls are refused leaves every byte.
+fn rewritten(numbers: HostTask, task: Task) -> HostTask
+    ensures { λ r. ⌜ r ≡ rewritten numbers task ⌝ }
+{
+    let new = write_task(task);
+    let old = write_task(read_task(numbers));
+    if same_numbers(new, old) {
+        return numbers;
+    }
+    new
+}
+
+// All tasks of a record.
+pub fn rewrite_all(
+    mut numbers: [HostTask; TASK_CELLS],
+    tasks: [Task; TASK_CELLS],
+) -> [HostTask; TASK_CELLS]
+    ensures { λ r. ⌜ r ≡ rewrite-all numbers tasks ⌝ }
+{
+    let mut t: usize = 0;
+    while t < TASK_CELLS {
+        numbers[t] = rewritten(numbers[t], tasks[t]);
+        t += 1;
+    }
+    numbers
 }

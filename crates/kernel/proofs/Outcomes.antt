@@ -48,6 +48,17 @@ module _ {s : State} {d : Decision} where
   pub decided-appliable : {c : Call} → Sound s → Decided (abs s) c d → Appliable s d
   decided-appliable S h = record { sound = λ t. S; ready = h .ready }
 
+  -- What is decided on a sound record is its judgement.
+  pub sound-judged : {c : Call} → Sound s → Decided (abs s) c d → Judged s c d
+  sound-judged {c} S h = record {
+    unknown = λ n.
+        let u = unknown-refused (view-of (abs s) c) c n in
+        h .refuses (no-eqb {a = c .number} {b = 0} (λ z. omega (arith, n, z))) (u .0) ∙ ap Refuse (u .1);
+    unsound = λ l f. absurd (f S);
+    sound = λ l T. h;
+    appliable = decided-appliable S h;
+  }
+
   module _ {r : Step} (a : Applied s d r) where
     -- A refusal hands back the very record with its code.
     refuses : {code : Code} → d ≡ Refuse code → r ≡ refusal-of code s
@@ -69,16 +80,6 @@ module _ {s : State} {d : Decision} where
             sound = kept-sound c S (a .readable (S .readable)) meaning;
             unchanged = λ n t. a .unchanged (rw (h .refuses n t) tt);
           }
-
-      -- The step behind the test.
-      pub advanced : Sound s → Decided (abs s) c d → Stepped s c r
-      advanced S h = record {
-        unknown = λ n.
-            let u = unknown-refused (view-of (abs s) c) c n in
-            refused-with (refuses (h .refuses (no-eqb {a = c .number} {b = 0} (λ z. omega (arith, n, z))) (u .0) ∙ ap Refuse (u .1)));
-        unsound = λ l f. absurd (f S);
-        sound = λ l T. follows S h;
-      }
 
       -- The whole step.
       pub stepped : Judged s c d → Stepped s c r

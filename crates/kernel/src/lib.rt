@@ -16,6 +16,12 @@ pub struct Kernel {
     pub state: State,
 }
 
+// What a call comes to, and whether that changes anything.
+pub struct Judgement {
+    pub decision: Decision,
+    pub changes: bool,
+}
+
 // What a call, or with number 0 the tick, comes to on whatever record.
 pub fn judge(state: State, call: Call) -> Decision
     ensures { λ r. ⌜ Judged state call r ⌝ }
@@ -27,6 +33,15 @@ pub fn judge(state: State, call: Call) -> Decision
     if !seen.sound {
         return Decision::Refuse(Code::Sys);
     }
+    decide::decide(call, seen)
+}
+
+// The same for a record that is known to be sound: it isn't tested again.
+pub fn judge_sound(state: State, call: Call) -> Decision
+    requires { ⌜ Sound state ⌝ }
+    ensures { λ r. ⌜ Judged state call r ⌝ }
+{
+    let seen = see::view(state, call);
     decide::decide(call, seen)
 }
 
@@ -79,6 +94,15 @@ pub fn apply(state: State, decision: Decision) -> Step
     }
 }
 
+// The step of a call that changes something.
+pub fn carry_out(state: State, judged: Judgement) -> Step
+    requires { ⌜ Appliable state (judged .decision) ⌝ }
+    ensures { λ r. ⌜ Applied state (judged .decision) r ⌝ }
+{
+    let decision = judged.decision;
+    apply(state, decision)
+}
+
 impl Kernel {
     // One call, or with number 0 the tick, on whatever record.
     pub fn step(self, call: Call) -> Step
@@ -95,8 +119,7 @@ impl Kernel {
         ensures { λ r. ⌜ Stepped (self .state) call r ⌝ }
     {
         let state = self.state;
-        let seen = see::view(state, call);
-        let decision = decide::decide(call, seen);
+        let decision = judge_sound(state, call);
         apply(state, decision)
     }
 }

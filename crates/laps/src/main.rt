@@ -3,7 +3,6 @@
 // and gives the counter, in its bytes 4 to 7; the next make the record through the entry; those behind the mark are played as the first says, as
 // often as the input has them. It prints a checksum of their answers.
 ghost use Prim.Native.Nat.{_+_, _≤_};
-ghost use Rattle.lists.specs.Tests.{Whether};
 ghost use Rattle.record.specs.Sound.{Sound};
 ghost use Rattle.record.specs.Step.{Stepped};
 use kernel::Kernel;
@@ -128,24 +127,6 @@ fn with_answer(sum: u32, answer: Answer) -> u32 {
 
 // ── Playing ──
 
-// Whether a record is sound, which is a part of what every call sees: here look, by caller 0, of task 0.
-fn sound(state: State) -> bool
-    ensures { λ r. ⌜ Whether (Sound state) r ⌝ }
-{
-    let call = Call {
-        number: 22,
-        caller: 0,
-        locked: false,
-        disabled: false,
-        object: 0,
-        value: 0,
-        tmout: 0,
-        attribute: 0,
-    };
-    let seen = see::see(state, call);
-    seen.sound
-}
-
 // The record without this task, where it is sound so.
 fn undefined(state: State, task: u8) -> State
     requires { ⌜ Sound state ⌝ }
@@ -162,7 +143,7 @@ fn undefined(state: State, task: u8) -> State
         defined: false,
         suspended: false,
     };
-    if !sound(next) {
+    if !see::sound(next) {
         return state;
     }
     next
@@ -175,7 +156,7 @@ fn started(counter: u32) -> State
     let empty = State::empty();
     let mut state = empty;
     state.counter = counter;
-    if !sound(state) {
+    if !see::sound(state) {
         return empty;
     }
     state

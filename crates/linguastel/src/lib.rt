@@ -41,7 +41,7 @@ pub extern "C" fn linguastel_call(lent: &mut HostRecord, call: HostCall) -> Host
     let state = host_record::state_of(*lent);
     let judged = host_record::judge(state, call);
     if judged.changes {
-        let stepped = host_record::apply(state, judged);
+        let stepped = kernel::carry_out(state, judged);
         *lent = host_record::stored(*lent, stepped, judged);
         return host_record::answered(stepped);
     }

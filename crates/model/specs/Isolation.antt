@@ -1,13 +1,14 @@
 -- Demand 3, and document 01, "What demand 3 compares".
 use mathlib.Core.Path.{_≡_}
 use mathlib.Core.Bool.{Bool, not}
-use mathlib.Core.List.{List, []}
+use mathlib.Core.List.{List, [], flatten}
 use mathlib.Core.Option.{some}
 use Prim.Native.Nat.{ℕ}
 use lib.Dec.{T, eqb}
 use Rattle.lists.specs.Lists.{Each}
 use Rattle.lists.specs.Options.{IfSome}
 use Rattle.rows.specs.Program as Program
+use Rattle.rows.specs.Runs.{in-a-row}
 use Rattle.rows.specs.Merge.{Separate}
 use Rattle.rows.specs.Merges.{SeparateAll}
 use Rattle.model.specs.Rows.{Key, task, suspension, queue, mailbox, message, valid, Row, MessageRow, Model, empty-state}
@@ -126,3 +127,22 @@ IsolationOfMany =
     → ((i : I) → (lists i ≡ [] → ⊥) → Placed (OwnedBy o i) (m .rows))
     → ((i : I) → Each (CallOf (OwnedBy o i)) (lists i))
     → SeparateAll same-owner step m lists
+
+-- ── With tables (document 02, item 2) ──
+
+-- Each entry of a list stands for calls made in a row: a table's (`calls-made`), or one call made singly. Every merge answers as each list alone does, entry
+-- by entry, and all merges end in equal states.
+abbrev pub IsolationInRows : Type 0
+IsolationInRows =
+    (m : Model) → Linked (m .rows)
+    → (a b : Carrier) → Placed (Own a) (m .rows) → Placed (Own b) (m .rows)
+    → (xs ys : List (List Call)) → ListsOfTwo (λ c. c) a b (flatten xs) (flatten ys)
+    → Separate (in-a-row step) m xs ys
+
+abbrev pub IsolationOfManyInRows : Type 1
+IsolationOfManyInRows =
+    (I : Type 0) (same-owner : Discrete I) (m : Model) → Linked (m .rows)
+    → (o : Owners I) (lists : I → List (List Call))
+    → ((i : I) → (flatten (lists i) ≡ [] → ⊥) → Placed (OwnedBy o i) (m .rows))
+    → ((i : I) → Each (CallOf (OwnedBy o i)) (flatten (lists i)))
+    → SeparateAll same-owner (in-a-row step) m lists

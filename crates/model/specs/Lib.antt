@@ -12,6 +12,7 @@ pub mod Tasks
 pub mod Step
 pub mod WellFormed
 pub mod Engine
+pub mod Tables
 pub mod Refusals
 pub mod Answers
 pub mod Endings

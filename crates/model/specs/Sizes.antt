@@ -40,6 +40,10 @@ end-limit = 2147483647
 abbrev pub counter-span : ℕ
 counter-span = 4294967296
 
+-- The most calls in a table (document 02, item 2).
+abbrev pub table-limit : ℕ
+table-limit = 64
+
 -- n is from low to high.
 abbrev pub within : ℕ → ℕ → ℕ → Bool
 within low high n = leb low n && leb n high

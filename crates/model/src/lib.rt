@@ -23,6 +23,9 @@ pub const TMOUT_LIMIT: i32 = 2147483646;
 // The latest end tick of a sound record, in ticks from now: that of the largest tmout (document 02, item 1).
 pub const END_LIMIT: u32 = 2147483647;
 
+// The most calls in a table (document 02, item 2).
+pub const TABLE_LIMIT: usize = 64;
+
 // A call with its context: the call's fields of the 32-byte record that units write (document 02, item 3), its two flags apart.
 pub struct Call {
     // The number in document 01's table of calls.

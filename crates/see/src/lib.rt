@@ -327,3 +327,21 @@ pub fn see(state: State, call: Call) -> Seen
         &state.messages.link,
     )
 }
+
+// Whether the record is sound, by itself: what any call sees of it; here look, by caller 0, of task 0.
+pub fn sound(state: State) -> bool
+    ensures { λ r. ⌜ Whether (Sound state) r ⌝ }
+{
+    let look = Call {
+        number: 22,
+        caller: 0,
+        locked: false,
+        disabled: false,
+        object: 0,
+        value: 0,
+        tmout: 0,
+        attribute: 0,
+    };
+    let seen = see(state, look);
+    seen.sound
+}

@@ -32,6 +32,7 @@ use denote.Triple.Entry.{onEntry}
 use denote.Triple.Spec.{Spec, Meets}
 use denote.Triple.Walked.{says, Stays, stay-ref, stay-none, walkOf, AllGo, goes-none, goes-ref, ends-at, walked, walk-meets}
 use denote.Exit.{yes, unchanged}
+use Rattle.thin.proofs.Lent as lent
 
 -- The row of a type that is seen at exit as it was passed, from its parts.
 module _ (D : Type 0) (D-mir : Ty) (D-written : Written) (D-reaches : List (Written × List Ty)) (D-own : D → List Val → Fml) (D-coded : Coded D) where
@@ -122,24 +123,17 @@ module _ {M : Type 1} {𝓤 : URA M} {H : Heap 𝓤} {A : Atoms 𝓤} (E : Entry
 
     -- the borrow, where it is closed at the record h′ and where it is open and h′ lies there
     abbrev pub Closed : T .D → List (Item 𝓤) → List (Item 𝓤)
-    Closed h′ Γ = ‵ (fobs γ ((row T) .coded .code h′)) ∷ ‵ (fbor κ (Body (mem (row T)) b o γ)) ∷ ‵ (flft κ q) ∷ Γ
+    Closed = lent.Closed W T T-laws T-plain κ q b o γ
 
     abbrev pub Opened : T .D → List (Item 𝓤) → List (Item 𝓤)
-    Opened h′ Γ = ‵ (cellAt fullShare ((row T) .mir) (T-value h′ ∷ []) b o) ∷ ‵ ((row T) .own h (T-value h ∷ [])) ∷ ‵ (fobor κ q (Body (mem (row T)) b o γ)) ∷ ‵ (fobs γ ((row T) .coded .code h)) ∷ ‵ (fauth γ ((row T) .coded .code h)) ∷ Γ
+    Opened = lent.Opened W T T-laws T-plain κ q b o γ h
 
-    -- ── The steps of a walk ──
+    module _ {K : Type 0} {Γ : List (Item 𝓤)} {G : Goal 𝓤 H} where
+      abbrev pub takes : K → Soaks G → (Is (row T) h (T-value h ∷ []) → Seq K W (Opened h Γ) G) → Seq K W (Closed h Γ) G
+      takes = lent.takes W T T-laws T-plain κ q b o γ h
 
-    module _ {K : Type 0} {Γ : List (Item 𝓤)} where
-      module _ {G : Goal 𝓤 H} where
-        -- the borrow is opened
-        pub takes : K → Soaks G → (Is (row T) h (T-value h ∷ []) → Seq K W (Opened h Γ) G) → Seq K W (Closed h Γ) G
-        takes t z k =
-            opens t z (row T) {h = h} b o (λ vs. spelt t (row T) (Is (row T)) (shows 𝓤 H A (row T)) (LL.vals T T-laws) (LL.tells T T-laws) fullShare h vs b o $
-            move t (1 ∷ []) $ peeks t (row T) (Is (row T)) (shows 𝓤 H A (row T)) h (T-value h ∷ []) (λ is. move t (1 ∷ []) $ k is))
-
-        -- the borrow is closed at the record that lies there
-        pub leaves : K → Soaks G → (h′ : T .D) → Is (row T) h′ (T-value h′ ∷ []) → Step K W (Closed h′ Γ) G (Opened h′ Γ) G
-        leaves t z h′ is = step (λ s. move t (1 ∷ []) $ drop t $ owned t (row T) (Is (row T)) (LL.makes T T-plain 𝓤 H A) h′ _ is $ move t (1 ∷ 0 ∷ []) $ closes t z (row T) h′ (T-value h′ ∷ []) b o $ s)
+      abbrev pub leaves : K → Soaks G → (h′ : T .D) → Is (row T) h′ (T-value h′ ∷ []) → Step K W (Closed h′ Γ) G (Opened h′ Γ) G
+      leaves = lent.leaves W T T-laws T-plain κ q b o γ h
 
     -- the locals are freed, the borrow is closed at `after`, and n is answered
     pub exits : (after : T .D) (n : N .D) → Q h d after n → Is (row N) n (N-value n ∷ []) → ent 𝓤 (⋆ 𝓤 H A (Closed after [])) (Post (N-value n))

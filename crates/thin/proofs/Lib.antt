@@ -1,4 +1,6 @@
 pub mod Asked
+pub mod Lent
 pub mod Entry
 pub mod Walk
 pub mod Staged
+pub mod Table

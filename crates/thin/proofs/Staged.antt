@@ -45,7 +45,7 @@ use Rattle.thin.proofs.Asked.{Asked, ByValue, asks}
 use Rattle.thin.proofs.Entry.{D-row, Entry, Lent, R, T-value, N-value, T-type, lent-type, signature, spec, Post, Closed, takes, leaves, exits, walk-enough}
 
 -- What is read is known by another name.
-read-as : {M : Type 1} {𝓤 : URA M} {H : Heap 𝓤} {A : Atoms 𝓤} {K : Type 0} {W : Given 𝓤 H A} {Γ : List (Item 𝓤)} {τ : Ty} {b o : ℕ} {v u : Val} → v ≡ u → Reads K W Γ τ b o v → Reads K W Γ τ b o u
+pub read-as : {M : Type 1} {𝓤 : URA M} {H : Heap 𝓤} {A : Atoms 𝓤} {K : Type 0} {W : Given 𝓤 H A} {Γ : List (Item 𝓤)} {τ : Ty} {b o : ℕ} {v u : Val} → v ≡ u → Reads K W Γ τ b o v → Reads K W Γ τ b o u
 read-as {K = K} {W} {Γ} {τ} {b} {o} e r = subst (λ (w : Val). Reads K W Γ τ b o w) e r
 
 -- The types of what is lent, T, of the state S that is read of it, of what is judged, J, of the step Y and of the answer N, each with the laws that the toolchain makes for it. The field k of J, at the byte `at`, is the `bool` that is tested: `refl` shows both premises of any J.

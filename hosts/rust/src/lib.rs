@@ -1,11 +1,14 @@
-//! Linguastel for hosts in Rust: the state record, the 23 calls and the tick. Document 01 says what each of them does; its words are used here.
+//! Linguastel for hosts in Rust: the state record, the 23 calls, the tick, and tables of calls. Documents 01 and 02 say what each of them does; their
+//! words are used here.
 //!
-//! `rt staticlib linguastel` proves the library and writes target/staticlib/liblinguastel.a. With cargo, build.rs finds it there or in the folder that
-//! LINGUASTEL_LIB names. Without cargo: `rustc --edition 2021 --crate-type rlib -L native=target/staticlib hosts/rust/src/lib.rs`.
+//! The library is two archives: `rt staticlib linguastel` proves and writes target/staticlib/liblinguastel.a, `rt staticlib linguastel_table`
+//! target/staticlib/liblinguastel_table.a, which has the function behind [`Record::table`] alone. This crate links both. With cargo, build.rs finds
+//! them there or in the folder that LINGUASTEL_LIB names. Without cargo:
+//! `rustc --edition 2021 --crate-type rlib -L native=target/staticlib hosts/rust/src/lib.rs`.
 //!
-//! The kernel's promise covers a record of any bytes and a call with any numbers, so every field is public and every function is safe. A `&mut Record`
-//! is a whole record that nobody else uses during the call. What stays the host's part: each call gets the record as the call before it left it, and
-//! the context is true.
+//! The kernel's promise covers a record of any bytes, a call with any numbers and tables of any length, so every field is public and every function
+//! is safe. A `&mut Record` is a whole record that nobody else uses during the call. What stays the host's part: each call gets the record as the call
+//! before it left it, and the context is true.
 #![no_std]
 
 use core::mem::{align_of, offset_of, size_of};
@@ -25,6 +28,8 @@ pub const LOWEST_PRIORITY: u32 = 16;
 pub const LONGEST_TMOUT: i32 = 2_147_483_646;
 /// The tmout that waits without end.
 pub const FOREVER: i32 = -1;
+/// The most calls of a table.
+pub const TABLE: usize = 64;
 
 pub const E_OK: i32 = 0;
 pub const E_SYS: i32 = -5;
@@ -241,7 +246,7 @@ impl Call {
 
 /// An answer in document 01's numbers.
 #[repr(C)]
-#[derive(Clone, Copy, PartialEq, Eq, Debug)]
+#[derive(Clone, Copy, PartialEq, Eq, Debug, Default)]
 pub struct Answer {
     /// 0 finished, 1 waits.
     pub kind: u32,
@@ -317,6 +322,12 @@ extern "C" {
     fn linguastel_call(record: *mut Record, call: Call) -> Answer;
 }
 
+// An archive of its own: a second caller of the step in one archive would make both dearer.
+#[link(name = "linguastel_table", kind = "static")]
+extern "C" {
+    fn linguastel_table(record: &mut Record, calls: *const Call, call_count: usize, answers: *mut Answer, answer_count: usize) -> i32;
+}
+
 /// The record's size and alignment as the library has them, so that a host can see that it linked the library that this layout is for.
 pub fn library_layout() -> (usize, usize) {
     // SAFETY: both take nothing and return a constant.
@@ -365,6 +376,20 @@ impl Record {
     #[inline]
     pub fn tick(&mut self) -> Answer {
         self.call(Call { number: number::TICK, ..Call::default() })
+    }
+
+    /// A table of calls in one go. E_OK: the calls were made first to last, and the answer to `calls[i]` is in `answers[i]`. Answers and record are
+    /// those of the calls made singly; a refused call doesn't stop the rest. Number 0 is no tick here: like an unknown number it gets E_PAR with zero
+    /// words in its cell. Answer cells past the last call keep their contents. A table without calls gives E_OK too.
+    ///
+    /// E_SYS: the record isn't sound. Then E_PAR: more than `TABLE` calls, or fewer answer cells than calls. Either way nothing is done: the record
+    /// and every answer cell keep every byte.
+    #[inline]
+    pub fn table(&mut self, calls: &[Call], answers: &mut [Answer]) -> i32 {
+        // SAFETY: the reference is to a whole record of the layout above. The pointers are those of whole tables, handed over with their lengths; the
+        // pointer of a slice is aligned and not null even where it holds nothing. Record and answers are borrowed mutably, so nothing overlaps. The
+        // function writes the record and the answers alone. Any bytes, any calls and any lengths will do.
+        unsafe { linguastel_table(self, calls.as_ptr(), calls.len(), answers.as_mut_ptr(), answers.len()) }
     }
 }
 

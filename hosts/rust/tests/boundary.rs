@@ -1,8 +1,10 @@
-//! Tests the boundary between a host in Rust and the library: the layout, bad numbers, records that aren't sound, what calls write, and hosts/runs
-//! through the wrapper. hosts/c/boundary.c is the same for C. A null or misaligned pointer is no `&mut Record`; noise in unused fields is left to the
-//! test in C. Every byte of a record belongs to a field, so `==` compares all of them.
+//! Tests the boundary between a host in Rust and the library: the layout, bad numbers, records that aren't sound, what calls write, tables of calls,
+//! and hosts/runs through the wrapper. hosts/c/boundary.c is the same for C. A null or misaligned pointer is no `&mut Record` and no slice; noise in
+//! all unused fields, and tables at the edge of a page, are left to the test in C. Every byte of a record or an answer belongs to a field, so `==`
+//! compares all of them.
 use linguastel::*;
 use std::array::from_fn;
+use std::collections::BTreeSet;
 use std::ffi::c_void;
 use std::hint::black_box;
 use std::mem::{align_of, size_of};
@@ -77,6 +79,22 @@ impl Noise {
             ..Call::default()
         }
     }
+
+    fn answer(&mut self) -> Answer {
+        Answer { kind: self.word(), code: self.word() as i32, place: self.word(), a: self.word(), b: self.word(), c: self.word() }
+    }
+
+    /// At times a number of no call, or a context in which calls are refused.
+    fn call_of_table(&mut self) -> Call {
+        let call = self.call();
+        let number = if self.below(16) == 0 { NO_CALLS[self.below(NO_CALLS.len() as u32) as usize] } else { call.number };
+        let mut one_in_16 = || u32::from(self.below(16) == 0);
+        Call { number, locked: one_in_16(), disabled: one_in_16(), ..call }
+    }
+
+    fn table(&mut self) -> Vec<Call> {
+        (0..self.below(TABLE as u32 + 1)).map(|_| self.call_of_table()).collect()
+    }
 }
 
 fn noise() -> Noise {
@@ -107,7 +125,7 @@ fn typical() -> Record {
 
 /// Refused with this code: no place, no words.
 fn refusal(code: i32) -> Answer {
-    Answer { kind: 0, code, place: 0, a: 0, b: 0, c: 0 }
+    Answer { code, ..Answer::default() }
 }
 
 // ── A record that may only be read ──
@@ -165,6 +183,46 @@ fn assert_writes_nothing(page: &Page, record: &Record, call: Call, expected: Ans
     for at_end in [false, true] {
         assert_eq!(page.call(record, at_end, call), expected, "{what}");
     }
+}
+
+// ── Tables of calls ──
+
+/// Two calls more than a table may have, and two cells more than that.
+const MOST_CALLS: usize = TABLE + 2;
+const MOST_CELLS: usize = MOST_CALLS + 2;
+
+/// Noise, so that it shows which cells are written.
+fn cells() -> [Answer; MOST_CELLS] {
+    let mut noise = noise();
+    from_fn(|_| noise.answer())
+}
+
+/// Nothing is done: the record and the cells keep every byte.
+fn assert_table_refused(record: &Record, calls: &[Call], cell_count: usize, code: i32, what: &str) {
+    let (mut lent, mut answers) = (*record, cells());
+    assert_eq!(lent.table(calls, &mut answers[..cell_count]), code, "{what}: {} calls, {cell_count} cells", calls.len());
+    assert_eq!((lent, answers), (*record, cells()), "{what}: {} calls, {cell_count} cells", calls.len());
+}
+
+/// Number 0 is no tick in a table.
+fn make_singly(record: &mut Record, call: Call) -> Answer {
+    if call.number == number::TICK {
+        refusal(E_PAR)
+    } else {
+        record.call(call)
+    }
+}
+
+/// The record comes from the empty one: answers and record are those of the calls made singly, byte for byte. The other cells keep theirs.
+fn assert_table_made(record: &mut Record, calls: &[Call], cell_count: usize) -> Vec<Answer> {
+    let (mut twin, mut answers) = (*record, cells());
+    assert_eq!(record.table(calls, &mut answers[..cell_count]), E_OK, "{calls:?}");
+    let singly: Vec<Answer> = calls.iter().map(|call| make_singly(&mut twin, *call)).collect();
+    let (made, kept) = answers.split_at(calls.len());
+    assert_eq!(made, singly, "{calls:?}");
+    assert_eq!(kept, &cells()[calls.len()..], "the cells past the last call");
+    assert_eq!(*record, twin, "{calls:?}");
+    singly
 }
 
 // ── Layout and numbers ──
@@ -234,12 +292,17 @@ fn locked_and_disabled_as_numbers() {
 
 // ── Records that aren't sound ──
 
-/// Every call of a known number is refused and writes nothing; number 0 is the tick.
+/// Every call of a known number is refused and writes nothing; number 0 is the tick. A table is refused; its E_SYS comes first, also with an empty
+/// table, with one that is too long, and with too few cells.
 fn assert_unsound(page: &Page, record: &Record, what: &str) {
     assert!(!record.is_sound(), "{what}");
     for number in number::TICK..=number::FETCH {
         let call = Call { value: 1, ..Call::new(number, Context::HANDLER, 1) };
         assert_writes_nothing(page, record, call, refusal(E_SYS), what);
+    }
+    let calls = [Call::new(number::PSND_DTQ, Context::HANDLER, 1); MOST_CALLS];
+    for (call_count, cell_count) in [(0, 0), (0, 1), (1, 0), (1, 1), (64, 63), (64, 64), (65, 64), (65, 65), (66, 68)] {
+        assert_table_refused(record, &calls[..call_count], cell_count, E_SYS, what);
     }
 }
 
@@ -310,10 +373,16 @@ fn various() -> Record {
     record
 }
 
-/// Calls that change nothing, with their codes: refused ones, then those that only read.
-fn without_change() -> [(i32, Call); 24] {
-    let by_handler = |number, object| Call::new(number, Context::HANDLER, object);
-    let by_task = |task, number, object| Call::new(number, Context::task(task), object);
+fn by_handler(number: u32, object: u32) -> Call {
+    Call::new(number, Context::HANDLER, object)
+}
+
+fn by_task(task: u32, number: u32, object: u32) -> Call {
+    Call::new(number, Context::task(task), object)
+}
+
+/// With their codes.
+fn refused() -> [(i32, Call); 17] {
     [
         (E_PAR, by_handler(number::FETCH + 1, 0)),
         (E_SYS, by_task(33, number::REF_DTQ, 1)),
@@ -332,6 +401,12 @@ fn without_change() -> [(i32, Call); 24] {
         (E_ILUSE, by_handler(number::FSND_DTQ, 3)),
         (E_TMOUT, by_handler(number::PSND_DTQ, 2)),
         (E_TMOUT, by_task(3, number::TRCV_MBX, 1)),
+    ]
+}
+
+/// With the codes that they give.
+fn reading() -> [(i32, Call); 7] {
+    [
         (E_OK, by_handler(number::LOOK, 1)),
         (E_OK, by_handler(number::REF_DTQ, 2)),
         (E_OK, by_handler(number::REF_MBX, 2)),
@@ -345,7 +420,7 @@ fn without_change() -> [(i32, Call); 24] {
 #[test]
 fn calls_that_write_nothing() {
     let page = Page::new();
-    for (code, call) in without_change() {
+    for (code, call) in refused().into_iter().chain(reading()) {
         let mut record = various();
         let answer = record.call(call);
         assert_eq!((answer.outcome(), record), (Outcome::Finished(code), various()), "{call:?}");
@@ -449,6 +524,135 @@ fn the_longest_time_out() {
     assert_eq!(record.tick().a, 1);
 }
 
+// ── What tables do ──
+
+/// A record and messages 1, 2, ... to a mailbox in order of arrival: the answers are a 0, a 1, and so on.
+fn sends() -> (Record, [Call; MOST_CALLS]) {
+    let mut record = Record::empty();
+    record.icre_mbx(3, TA_TFIFO, 0);
+    (record, from_fn(|i| Call { value: i as u32 + 1, ..by_handler(number::SND_MBX, 3) }))
+}
+
+#[test]
+fn tables_long_and_short() {
+    let (start, calls) = sends();
+    for call_count in [0, 1, 63, 64, 65, 66] {
+        for cell_count in 0..=MOST_CELLS {
+            if call_count > TABLE || call_count > cell_count {
+                assert_table_refused(&start, &calls[..call_count], cell_count, E_PAR, "too long, or too few cells");
+                assert_table_refused(&marked(start), &calls[..call_count], cell_count, E_PAR, "the same with marks");
+                continue;
+            }
+            let mut record = start;
+            let answers = assert_table_made(&mut record, &calls[..call_count], cell_count);
+            assert!(answers.iter().enumerate().all(|(i, answer)| *answer == Answer { a: i as u32, ..Answer::default() }));
+            assert_eq!(record.iref_mbx(3).b, u32::from(call_count > 0));
+        }
+    }
+}
+
+#[test]
+fn the_empty_slices() {
+    let (mut record, calls) = sends();
+    assert_eq!(record.table(&[], &mut []), E_OK);
+    assert_eq!(record.table(&calls[..1], &mut []), E_PAR);
+    assert_eq!(record, sends().0);
+}
+
+/// As a byte, 257 and 279 would be 1 and 23; in 16 bits, 65541 would be 5.
+const NO_CALLS: [u32; 8] = [number::TICK, number::FETCH + 1, 255, 256, 257, 279, 65541, u32::MAX];
+
+/// Two calls that are accepted, and between them as many of one number as there is room for. The next tick would end a wait.
+#[test]
+fn tables_with_numbers_of_no_call() {
+    for number in NO_CALLS {
+        let mut record = waiting(u32::MAX - 1, 1);
+        record.tick();
+        let mut calls = [Call { number, caller: 77, locked: 1, object: 1, value: 1, ..Call::default() }; TABLE];
+        calls[..TABLE / 2].fill(by_handler(number, 1));
+        (calls[0], calls[TABLE - 1]) = (Call { value: 1, ..by_handler(number::DEFINE_TASK, 7) }, by_handler(number::SUS_TSK, 7));
+        let answers = assert_table_made(&mut record, &calls, TABLE);
+        assert!(answers[1..TABLE - 1].iter().all(|answer| *answer == refusal(E_PAR)), "{number}");
+        assert_eq!((record.counter, record.ilook(1).a, record.ilook(7).c), (u32::MAX, u32::from(RECEIVING), 1));
+        assert_eq!(record.tick().a, 1);
+    }
+}
+
+/// At each place of a table, among calls of which the last gives the word that the one before it sent.
+#[test]
+fn tables_with_a_refused_call() {
+    let word = Call { value: 70, ..by_handler(number::PSND_DTQ, 9) };
+    let accepted = [Call { value: 1, ..by_handler(number::CRE_DTQ, 9) }, word, by_handler(number::PRCV_DTQ, 9)];
+    for (code, call) in refused() {
+        for place in 0..=accepted.len() {
+            let mut calls = accepted.to_vec();
+            calls.insert(place, call);
+            let mut answers = assert_table_made(&mut various(), &calls, MOST_CELLS);
+            assert_eq!(answers.remove(place), refusal(code), "{call:?}");
+            assert_eq!(answers, [refusal(E_OK), refusal(E_OK), Answer { a: 70, ..Answer::default() }], "{call:?}");
+        }
+    }
+}
+
+/// A task that waits can't call: the calls behind its wait are refused, those of others are made.
+#[test]
+fn a_wait_in_a_table() {
+    let calls = [Call { tmout: 4, ..by_task(3, number::TRCV_DTQ, 3) }, by_task(3, number::REF_DTQ, 3), by_handler(number::REF_DTQ, 3)];
+    let answers = assert_table_made(&mut various(), &calls, calls.len());
+    assert_eq!(answers, [Answer { kind: 1, ..Answer::default() }, refusal(E_SYS), Answer { b: 3, ..Answer::default() }]);
+}
+
+/// Marks in fields of which nothing is asked: the spare ones, those of number 0, and those of tasks and objects that nobody has.
+fn marked(mut record: Record) -> Record {
+    let mut noise = noise();
+    for queue in &mut record.queues {
+        (queue.spare, queue.ring.spare) = (noise.word() as u16, noise.byte());
+    }
+    (record.tasks[0], record.queues[0], record.mailboxes[0], record.spare) = (noise.task(), noise.queue(), noise.mailbox(), noise.byte());
+    record.tasks[TASKS] = Task { wait: NO_WAIT, flags: 0, ..noise.task() };
+    (record.queues[QUEUES].ring.words, record.queues[QUEUES].attribute) = (from_fn(|_| noise.word()), noise.byte());
+    (record.mailboxes[MAILBOXES].attribute, record.mailboxes[MAILBOXES].highest) = (noise.byte(), noise.byte());
+    (record.waiting.key[0], record.messages.link[0], record.messages.key[0]) = (noise.byte(), noise.byte(), noise.byte());
+    assert!(record.is_sound());
+    record
+}
+
+/// The record keeps every byte.
+#[test]
+fn tables_of_refused_calls() {
+    for content in [various(), marked(various())] {
+        for (first, count) in (0..refused().len()).flat_map(|first| (0..=TABLE).map(move |count| (first, count))) {
+            let (codes, calls): (Vec<i32>, Vec<Call>) = refused().into_iter().cycle().skip(first).take(count).unzip();
+            let (mut record, mut answers) = (content, cells());
+            assert_eq!(record.table(&calls, &mut answers), E_OK);
+            assert!(answers.iter().zip(codes).all(|(answer, code)| *answer == refusal(code)), "{calls:?}");
+            assert_eq!((record, &answers[count..]), (content, &cells()[count..]));
+        }
+    }
+}
+
+/// With other bytes on the stack each time. Some records grow from the empty one, the rest go on.
+#[test]
+fn random_tables() {
+    let mut noise = noise();
+    let mut record = Record::empty();
+    let (mut accepted, mut waits) = (BTreeSet::new(), 0);
+    for i in 0..3000 {
+        if i < 1000 || i % 100 == 0 {
+            record = Record::empty();
+        }
+        let calls = noise.table();
+        let cell_count = calls.len() + noise.below((MOST_CELLS - calls.len() + 1) as u32) as usize;
+        paint_stack([0x1111_1111_1111_1111, 0xeeee_eeee_eeee_eeee][i % 2]);
+        for (call, answer) in calls.iter().zip(assert_table_made(&mut record, &calls, cell_count)) {
+            accepted.extend(answer.is_ok().then_some(call.number));
+            waits += u32::from(answer.waits());
+        }
+        record.tick();
+    }
+    assert!(accepted.into_iter().eq(number::DEFINE_TASK..=number::FETCH) && waits > 0, "a call of each number is accepted, and calls wait");
+}
+
 // ── The runs ──
 
 /// The calls in the order of their numbers.
@@ -520,51 +724,78 @@ fn answer_text(answer: Answer) -> String {
     format!("{outcome} {} {} {}", answer.a, answer.b, answer.c)
 }
 
-fn play_line(page: &Page, record: &mut Record, way: Way, fields: &[&str]) {
+fn call_of(fields: &[&str]) -> Call {
     let number = |field: usize| fields[field].parse().unwrap();
+    Call {
+        number: NAMES.split(' ').position(|known| known == fields[3]).unwrap() as u32,
+        caller: number(1),
+        locked: u32::from(fields[2] == "L"),
+        disabled: u32::from(fields[2] == "D"),
+        object: number(4),
+        value: number(5),
+        attribute: number(6),
+        tmout: fields[7].parse().unwrap(),
+    }
+}
+
+fn play_call(page: &Page, record: &mut Record, way: Way, fields: &[&str]) {
+    let (call, before) = (call_of(fields), *record);
+    let answer = way(record, call);
+    assert_eq!(answer_text(answer), fields[8..].join(" "), "{call:?}");
+    let reads = matches!(call.number, number::REF_DTQ | number::REF_MBX | number::LOOK | number::FETCH);
+    if reads || answer.code != E_OK {
+        assert_eq!(*record, before, "{call:?}");
+        assert_writes_nothing(page, &before, call, answer, "a line of a run");
+    }
+}
+
+fn play_line(page: &Page, record: &mut Record, way: Way, fields: &[&str]) {
     match fields[3] {
-        "from" => record.counter = number(5),
-        "leaves" => assert_eq!(record.counter, number(5)),
-        name => {
-            let call = Call {
-                number: NAMES.split(' ').position(|known| known == name).unwrap() as u32,
-                caller: number(1),
-                locked: u32::from(fields[2] == "L"),
-                disabled: u32::from(fields[2] == "D"),
-                object: number(4),
-                value: number(5),
-                attribute: number(6),
-                tmout: fields[7].parse().unwrap(),
-            };
-            let before = *record;
-            let answer = way(record, call);
-            assert_eq!(answer_text(answer), fields[8..].join(" "), "{call:?}");
-            let reads = matches!(call.number, number::REF_DTQ | number::REF_MBX | number::LOOK | number::FETCH);
-            if reads || answer.code != E_OK {
-                assert_eq!(*record, before, "{call:?}");
-                assert_writes_nothing(page, &before, call, answer, "a line of a run");
-            }
-        }
+        "from" => record.counter = fields[5].parse().unwrap(),
+        "leaves" => assert_eq!(record.counter.to_string(), fields[5]),
+        _ => play_call(page, record, way, fields),
     }
 }
 
 type Way = fn(&mut Record, Call) -> Answer;
 
+/// Each run starts from the record that run 0 left.
+fn play_runs(lines: &[Vec<&str>], mut play: impl FnMut(&mut Record, &[Vec<&str>])) {
+    let mut start = Record::empty();
+    for run in lines.chunk_by(|line, next| line[0] == next[0]) {
+        let mut record = start;
+        play(&mut record, run);
+        if run[0][0] == "0" {
+            start = record;
+        }
+    }
+}
+
+/// The calls between two ticks are handed over as one table. A tick can't stand in a table, nor can lines about the counter.
+fn play_as_tables(page: &Page, record: &mut Record, run: &[Vec<&str>]) {
+    let alone = |line: &[&str]| ["tick", "from", "leaves"].contains(&line[3]);
+    for lines in run.chunk_by(|line, next| !alone(line) && !alone(next)).flat_map(|lines| lines.chunks(TABLE)) {
+        if alone(&lines[0]) {
+            play_line(page, record, Record::call, &lines[0]);
+            continue;
+        }
+        let calls: Vec<Call> = lines.iter().map(|line| call_of(line)).collect();
+        for (line, answer) in lines.iter().zip(assert_table_made(record, &calls, calls.len())) {
+            assert_eq!(answer_text(answer), line[8..].join(" "), "{line:?}");
+        }
+    }
+}
+
 /// The text has this many runs beside run 0.
 fn play(text: &str, runs: &str) {
     let page = Page::new();
+    let lines = text.lines().filter(|line| !line.is_empty() && !line.starts_with('#'));
+    let lines: Vec<Vec<&str>> = lines.map(|line| line.split_whitespace().collect()).collect();
+    assert_eq!(lines.last().unwrap()[0], runs);
     for way in [Record::call as Way, call_by_name, call_by_i_form] {
-        let mut start = Record::empty();
-        let (mut run, mut record) = ("0", start);
-        for line in text.lines().filter(|line| !line.is_empty() && !line.starts_with('#')) {
-            let fields: Vec<&str> = line.split_whitespace().collect();
-            if fields[0] != run {
-                (run, record) = (fields[0], start);
-            }
-            play_line(&page, if run == "0" { &mut start } else { &mut record }, way, &fields);
-        }
-        assert_eq!(run, runs);
+        play_runs(&lines, |record, run| run.iter().for_each(|line| play_line(&page, record, way, line)));
     }
+    play_runs(&lines, |record, run| play_as_tables(&page, record, run));
 }
 
 #[test]

@@ -1,5 +1,5 @@
 //! A host in Rust: the same story as hosts/c/demo.c, call for call, and the same output.
-use linguastel::{code_name, Answer, Context, Outcome, Record, E_NOEXS, NO_WAIT, TA_TFIFO};
+use linguastel::{code_name, number, Answer, Call, Context, Outcome, Record, E_NOEXS, E_OK, NO_WAIT, TABLE, TA_TFIFO};
 
 /// A host uses the kernel in five lines.
 fn five_lines() -> Answer {
@@ -25,16 +25,20 @@ const PRIORITY: u32 = 5;
 const CAPACITY: u32 = 8;
 const STEPS: usize = 12;
 
-// Each line of carrier A's file but the first stands for so many of the line before it.
+// Each line of carrier A's file but the first stands for so many of the line before it. A burst is as long as a table may be.
 const A_LINES: u32 = 10;
 const A_COPIES: u64 = 10;
+const A_BURST: u32 = TABLE as u32;
 
-// The tmout of carrier A's sends: a wait ends in the tick after so many.
+// The tmout of the element that carrier A's queue has no room for: its wait ends in the tick after so many.
 const A_TMOUT: i32 = 2;
 
-// Carrier B's file; its reader empties the queue in every fourth step.
+// Carrier B's file. Every fourth step has a burst; the reader takes a word in each step.
 const B_WORDS: [u32; STEPS] = [615, 640, 705, 730, 800, 830, 915, 1000, 1045, 1130, 1215, 1300];
-const B_READS_EVERY: usize = 4;
+const B_BURST: usize = 4;
+
+// Carrier A's reader takes so many elements, then no more.
+const A_TAKES: u32 = 4;
 
 struct Host {
     record: Record,
@@ -46,7 +50,7 @@ struct Host {
     b_received: Vec<u32>,
 }
 
-// Counted, not built: the import task makes an element when it can send it.
+// Counted, not built: the import task makes the elements of one table at a time.
 fn elements_of_a() -> u64 {
     A_COPIES.pow(A_LINES - 1)
 }
@@ -72,6 +76,19 @@ fn say(what: &str, answer: Answer) {
     }
 }
 
+// The table's code; where its calls were made, how many were accepted, and how many were refused like the first one that was.
+fn say_table(who: &str, code: i32, answers: &[Answer], accepted: usize) {
+    print!("      {who}, table of {} psnd_dtq: {}", answers.len(), code_name(code));
+    if code == E_OK {
+        print!(", {accepted} accepted");
+    }
+    if let Some(first) = answers.get(accepted).filter(|_| code == E_OK) {
+        let refused = answers.iter().filter(|answer| answer.code == first.code).count();
+        print!(", {refused} refused with {}", code_name(first.code));
+    }
+    println!();
+}
+
 // A queue's stored words, a # for each, and whether a sender waits.
 fn queue_text(reference: Answer) -> String {
     if reference.code == E_NOEXS {
@@ -84,67 +101,74 @@ fn queue_text(reference: Answer) -> String {
 impl Host {
     // ── What is done in a step ──
 
+    // A burst: a psnd_dtq for each word, all in one table. Gives how many were accepted: the first ones, since nobody receives meanwhile.
+    fn hand_over(&mut self, who: &str, task: u32, queue: u32, words: &[u32]) -> usize {
+        let send = |word: &u32| Call { value: *word, ..Call::new(number::PSND_DTQ, Context::task(task), queue) };
+        let calls: Vec<Call> = words.iter().map(send).collect();
+        let mut answers = vec![Answer::default(); words.len()];
+        let code = self.record.table(&calls, &mut answers);
+        let accepted = answers.iter().take_while(|answer| code == E_OK && answer.is_ok()).count();
+        say_table(who, code, &answers, accepted);
+        accepted
+    }
+
     fn b_imports(&mut self, step: usize) {
-        self.record.snd_dtq(Context::task(B_IMPORT), B_QUEUE, B_WORDS[step]);
+        if step % B_BURST == 0 {
+            self.hand_over("B's import task", B_IMPORT, B_QUEUE, &B_WORDS[step..step + B_BURST]);
+        }
     }
 
-    fn b_receives(&mut self) -> Answer {
-        self.record.prcv_dtq(Context::task(B_READER), B_QUEUE)
-    }
-
-    // Until the queue is empty.
     fn b_reads(&mut self) {
-        let mut answer = self.b_receives();
-        while answer.is_ok() {
+        let answer = self.record.prcv_dtq(Context::task(B_READER), B_QUEUE);
+        if answer.is_ok() {
             self.b_received.push(answer.a);
-            answer = self.b_receives();
         }
     }
 
     fn a_reads(&mut self) {
-        let answer = self.record.prcv_dtq(Context::task(A_READER), A_QUEUE);
-        say("A's reader, prcv_dtq", answer);
-        self.a_received += u32::from(answer.is_ok());
+        for _ in 0..A_TAKES {
+            let answer = self.record.prcv_dtq(Context::task(A_READER), A_QUEUE);
+            say("A's reader, prcv_dtq", answer);
+            self.a_received += u32::from(answer.is_ok());
+        }
     }
 
-    // What is done to carrier A's queue or import task. Its reader takes two elements, then no more.
+    // What is done to carrier A's queue or import task.
     fn happen(&mut self, step: usize) {
         match step {
-            1 | 2 => self.a_reads(),
+            1 => self.a_reads(),
             6 => say("handler, rel_wai of A's import task", self.record.irel_wai(A_IMPORT)),
             8 => say("operator, del_dtq of A's queue", self.record.del_dtq(Context::task(OPERATOR), A_QUEUE)),
             _ => (),
         }
     }
 
-    // The import task is able again and learns how its wait ended. An element whose wait ended with another code than E_OK was withdrawn.
-    fn a_wakes(&mut self) {
+    // The import task is able again and learns how its wait ended. Gives whether it got room; else its element was withdrawn.
+    fn a_got_room(&mut self) -> bool {
         let ended = self.record.fetch(Context::task(A_IMPORT), A_IMPORT);
         say("A's import task, fetch", ended);
         self.element += u32::from(ended.is_ok());
-        self.a_waits = false;
+        ended.is_ok()
     }
 
-    fn a_sends(&mut self) -> Answer {
-        self.record.tsnd_dtq(Context::task(A_IMPORT), A_QUEUE, self.element, A_TMOUT)
+    fn a_hands_over(&mut self) {
+        let elements: Vec<u32> = (self.element..self.element + A_BURST).collect();
+        self.element += self.hand_over("A's import task", A_IMPORT, A_QUEUE, &elements) as u32;
     }
 
-    // Sends element after element, until one has to wait or is refused.
+    // Hands over a burst where there may be room, then waits with the first element that was refused.
     fn a_imports(&mut self) {
         if self.a_stopped || self.record.ilook(A_IMPORT).a != u32::from(NO_WAIT) {
             return;
         }
-        if self.a_waits {
-            self.a_wakes();
+        if !self.a_waits || self.a_got_room() {
+            self.a_hands_over();
         }
-        let mut answer = self.a_sends();
-        while answer.is_ok() {
-            self.element += 1;
-            answer = self.a_sends();
-        }
-        self.a_waits = answer.waits();
-        self.a_stopped = !answer.waits();
+        let answer = self.record.tsnd_dtq(Context::task(A_IMPORT), A_QUEUE, self.element, A_TMOUT);
         say(&format!("A's import task, tsnd_dtq of element {}", self.element), answer);
+        self.element += u32::from(answer.is_ok());
+        self.a_waits = answer.waits();
+        self.a_stopped = !answer.waits() && !answer.is_ok();
     }
 
     fn draw(&mut self) {
@@ -164,9 +188,7 @@ impl Host {
     fn play(&mut self) {
         for step in 0..STEPS {
             self.b_imports(step);
-            if (step + 1) % B_READS_EVERY == 0 {
-                self.b_reads();
-            }
+            self.b_reads();
             self.happen(step);
             self.a_imports();
             self.draw();
@@ -183,7 +205,10 @@ fn main() {
     println!(
         "Carrier B's file has {STEPS} words. Each carrier has a data queue of {CAPACITY} words, an import task and a reader. # is a stored word."
     );
-    println!("A sends with tmout {A_TMOUT}: what nobody takes is given up in tick {} after the call.\n", A_TMOUT + 1);
+    println!(
+        "A burst is one table of calls: {A_BURST} elements of A, or {B_BURST} words of B. What a full queue refuses stays with the import task."
+    );
+    println!("A then sends the first of that with tmout {A_TMOUT}: what nobody takes is given up in tick {} after the call.\n", A_TMOUT + 1);
     println!("tick  A's queue                B's queue                received: A, B");
     host.play();
 

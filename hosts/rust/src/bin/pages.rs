@@ -83,16 +83,29 @@ impl Kernel {
 
     fn call(&mut self, call: Call, seen: &mut Seen) -> Answer {
         let answer = Answer::of(self.record.call(call));
-        let number = CALLS.len().min(call.number as usize);
+        self.note(&call, CALLS.len().min(call.number as usize), answer, seen);
+        answer
+    }
+
+    // A table of calls; gives its code. In a table number 0 is as unknown as those above 23.
+    fn table(&mut self, calls: &[Call], cells: &mut [linguastel::Answer], seen: &mut Seen) -> Outcome {
+        let code = self.record.table(calls, cells);
+        for (call, cell) in calls.iter().zip(cells).filter(|_| code == linguastel::E_OK) {
+            let number = if call.number == 0 { CALLS.len() } else { CALLS.len().min(call.number as usize) };
+            self.note(call, number, Answer::of(*cell), seen);
+        }
+        Outcome::Code(code)
+    }
+
+    fn note(&mut self, call: &Call, number: usize, answer: Answer, seen: &mut Seen) {
         seen.calls += 1;
-        seen.answers[number].insert(self.sight(&call, answer.outcome));
+        seen.answers[number].insert(self.sight(call, answer.outcome));
         if let Some(task) = self.waited_by.get_mut(call.caller as usize).filter(|_| answer.outcome == Outcome::Waits) {
             *task = Some(number);
         }
-        if let Some(starter) = self.starter(&call).filter(|_| is_end(answer.outcome)) {
+        if let Some(starter) = self.starter(call).filter(|_| is_end(answer.outcome)) {
             seen.ends[starter].insert(answer.outcome);
         }
-        answer
     }
 
     fn sight(&self, call: &Call, outcome: Outcome) -> Sight {
@@ -136,6 +149,14 @@ struct CallRow {
 
 const fn call_row(page: &'static str, name: &'static str, fields: &'static [&'static str], i_form: bool) -> CallRow {
     CallRow { name, page, fields, i_form }
+}
+
+impl CallRow {
+    // In the header, then in the wrapper.
+    fn names(&self) -> Vec<String> {
+        let forms = if self.i_form { vec![self.name.to_string(), format!("i{}", self.name)] } else { vec![self.name.to_string()] };
+        forms.iter().map(|form| format!("linguastel_{form}")).chain(forms.iter().cloned()).collect()
+    }
 }
 
 const FETCH: usize = 23;
@@ -182,6 +203,7 @@ const CODES: [(&str, i32); 12] = [
     ("E_DLT", -51),
 ];
 
+const E_OK: Outcome = Outcome::Code(0);
 const E_SYS: Outcome = Outcome::Code(-5);
 const E_PAR: Outcome = Outcome::Code(-17);
 const E_CTX: Outcome = Outcome::Code(-25);
@@ -202,6 +224,14 @@ const STEPS: [(&str, &str); 11] = [
 ];
 
 const ACCEPTED: &str = "-";
+
+// Document 02's table of calls: its checks in order, the most calls that it may have, the codes at the limits of its lengths (calls, then cells), and
+// its functions' names.
+const TABLE_STEPS: [(&str, &str); 2] = [("1", "E_SYS"), ("2", "E_PAR")];
+const MOST_CALLS: usize = 64;
+const TABLE_LENGTHS: [(Outcome, usize, usize); 4] =
+    [(E_OK, 0, 0), (E_OK, MOST_CALLS, MOST_CALLS), (E_PAR, MOST_CALLS + 1, MOST_CALLS + 1), (E_PAR, 1, 0)];
+const TABLE_NAMES: [&str; 3] = ["linguastel_table", "linguastel_guarded_table", "table"];
 
 fn can_refuse(step: &str, call: usize) -> bool {
     match step {
@@ -333,6 +363,69 @@ fn step_of(text: &str) -> Result<Step, String> {
     }
 }
 
+// A table of calls and what its cells hold afterwards; None where a cell keeps its contents. Call i and cell i stand on line i.
+#[derive(Default)]
+struct CallTable {
+    lines: usize,
+    calls: Vec<Call>,
+    cells: Vec<Option<Answer>>,
+}
+
+impl CallTable {
+    // '64 times H ref_dtq 1 -> E_OK c 1', 'H ref_dtq 1' where there is no cell for the call, or '-> kept' where there is no call for the cell.
+    fn add(&mut self, text: &str) -> Result<(), String> {
+        let (times, line) = text.split_once(" times ").map_or((Ok(1), text), |(times, line)| (parsed(times), line));
+        let (call, cell) = line.split_once("->").map_or((line, None), |(call, cell)| (call, Some(cell.trim())));
+        let words: Vec<&str> = call.split_whitespace().collect();
+        let call = words.split_first().map(|(caller, words)| call_by(caller, words)).transpose()?;
+        let cell = cell.map(|cell| if cell == "kept" { Ok(None) } else { whole_answer(cell).map(Some) }).transpose()?;
+        for _ in 0..times? {
+            self.lines += 1;
+            self.calls.extend(call);
+            self.cells.extend(cell);
+        }
+        let gap = call.is_some() && self.calls.len() < self.lines || cell.is_some() && self.cells.len() < self.lines;
+        if gap || (call, cell.is_some()) == (None, false) {
+            return Err(format!("'{text}': the line has neither a call nor a cell, or one that a line before it lacks"));
+        }
+        Ok(())
+    }
+
+    fn of<'a>(lines: impl Iterator<Item = &'a str>) -> Result<CallTable, String> {
+        let mut table = CallTable::default();
+        lines.map(|line| table.add(line.trim())).collect::<Result<(), String>>()?;
+        Ok(table)
+    }
+
+    // The table gives this code, its cells hold what they should, and a refused one changes nothing. The cells are marked, so that it shows which of
+    // them are written.
+    fn play(&self, kernel: &mut Kernel, code: Outcome, seen: &mut Seen) -> Result<(), String> {
+        let mark = |i: usize| linguastel::Answer { kind: 9, code: 9, place: i as u32, a: 9, b: 9, c: 9 };
+        let marks: Vec<linguastel::Answer> = (0..self.cells.len()).map(mark).collect();
+        let (mut cells, before) = (marks.clone(), kernel.record);
+        let given = kernel.table(&self.calls, &mut cells, seen);
+        if given != code {
+            return Err(format!("the kernel gives {given}"));
+        }
+        if given != E_OK && (kernel.record, &cells) != (before, &marks) {
+            return Err("the refused table changes something".to_string());
+        }
+        for (i, expected) in self.cells.iter().enumerate() {
+            let right = expected.map_or(cells[i] == marks[i], |answer| Answer::of(cells[i]) == answer);
+            if !right {
+                return Err(format!("cell {i} holds {}", Answer::of(cells[i])));
+            }
+        }
+        Ok(())
+    }
+}
+
+// 'E_OK a 10 c 1', or 'waits place 1'.
+fn whole_answer(text: &str) -> Result<Answer, String> {
+    let (name, words) = text.split_once(' ').unwrap_or((text, ""));
+    answer_of(outcome_named(name)?, words)
+}
+
 // 'a 10 c 1', or 'place 1'.
 fn answer_of(outcome: Outcome, text: &str) -> Result<Answer, String> {
     let mut answer = Answer { outcome, place: 0, words: [0; 3] };
@@ -404,6 +497,11 @@ impl Section {
         self.tables.iter().find(|table| table.header == header)
     }
 
+    // What is said of a table of calls.
+    fn is_of_tables(&self) -> bool {
+        self.title == "table"
+    }
+
     // '4 snd_dtq' is a call's title.
     fn call(&self) -> Option<(usize, &str)> {
         let (number, name) = self.title.split_once(' ')?;
@@ -456,8 +554,7 @@ fn quoted(text: &str) -> Vec<&str> {
 
 fn read_pages(folder: &str) -> Result<Vec<Page>, String> {
     let entries = fs::read_dir(folder).map_err(|error| format!("{folder}: {error}"))?;
-    let mut files: Vec<String> =
-        entries.flatten().map(|entry| entry.path().display().to_string()).filter(|path| path.ends_with(".md")).collect();
+    let mut files: Vec<String> = entries.flatten().map(|entry| entry.path().display().to_string()).filter(|path| path.ends_with(".md")).collect();
     files.sort();
     let read = |file: &String| fs::read_to_string(file).map(|text| page_of(file, &text)).map_err(|error| format!("{file}: {error}"));
     files.iter().map(read).collect()
@@ -466,6 +563,7 @@ fn read_pages(folder: &str) -> Result<Vec<Page>, String> {
 // ── The check ──
 
 const CHECKS: [&str; 4] = ["Step", "Code", "When", "Example"];
+const TABLE_CHECKS: [&str; 4] = ["Check", "Code", "When", "Example"];
 const ENDS: [&str; 4] = ["The wait ends by", "Code", "Word", "Example"];
 const PARAMETERS: [&str; 3] = ["Parameter", "Field", "Values"];
 const CODE_LIST: [&str; 3] = ["Code", "Number", "Meaning"];
@@ -502,31 +600,47 @@ impl Check {
         }
     }
 
-    // Plays an example from a table. All steps but the last have to be accepted; the last has to give the expected answer.
-    fn play_example(&mut self, outcome: Outcome, text: &str) -> Result<Played, String> {
-        let (steps, words) = text.split_once("->").unwrap_or((text, ""));
-        let expected = answer_of(outcome, words)?;
-        let steps = steps.split(';').map(step_of).collect::<Result<Vec<Step>, String>>()?;
-        let Some((Step::Call(call), before)) = steps.split_last() else {
-            return Err("the last step is no call".to_string());
-        };
-        let mut kernel = self.setting;
-        for step in before {
-            let answer = play(&mut kernel, step, &mut self.seen);
-            if answer.is_some_and(|answer| ![Outcome::Waits, Outcome::Code(0)].contains(&answer.outcome)) {
+    // Plays all steps of an example but the last; they have to be accepted. Gives the last.
+    fn play_before<'a>(&mut self, kernel: &mut Kernel, text: &'a str) -> Result<&'a str, String> {
+        let (before, last) = text.rsplit_once(';').map_or((None, text), |(before, last)| (Some(before), last));
+        for step in before.iter().flat_map(|before| before.split(';')) {
+            let answer = play(kernel, &step_of(step)?, &mut self.seen);
+            if answer.is_some_and(|answer| ![Outcome::Waits, E_OK].contains(&answer.outcome)) {
                 return Err("a step before the last isn't accepted".to_string());
             }
         }
-        let answer = kernel.call(*call, &mut self.seen);
+        Ok(last.trim())
+    }
+
+    // Plays an example from a table of checks. The last step has to give the expected answer.
+    fn play_example(&mut self, outcome: Outcome, text: &str) -> Result<Played, String> {
+        let mut kernel = self.setting;
+        let last = self.play_before(&mut kernel, text)?;
+        let (step, words) = last.split_once("->").unwrap_or((last, ""));
+        let expected = answer_of(outcome, words)?;
+        let Step::Call(call) = step_of(step)? else {
+            return Err("the last step is no call".to_string());
+        };
+        let answer = kernel.call(call, &mut self.seen);
         if answer == expected {
-            Ok(Played { call: *call, sight: kernel.sight(call, outcome), kernel })
+            Ok(Played { call, sight: kernel.sight(&call, outcome), kernel })
         } else {
             Err(format!("the kernel gives {answer}"))
         }
     }
 
+    // The same where the last step is a table of calls, with a comma between its lines. Gives its code, and how many calls and cells it has.
+    fn play_table_example(&mut self, outcome: Outcome, text: &str) -> Result<(Outcome, usize, usize), String> {
+        let mut kernel = self.setting;
+        let last = self.play_before(&mut kernel, text)?;
+        let lines = last.strip_prefix("table").ok_or("the last step is no table")?;
+        let table = CallTable::of(lines.split(',').filter(|_| !lines.is_empty()))?;
+        table.play(&mut kernel, outcome, &mut self.seen)?;
+        Ok((outcome, table.calls.len(), table.cells.len()))
+    }
+
     // Plays the examples of a row, and hands out those that give what they should.
-    fn play_row(&mut self, page: &Page, row: &(usize, Vec<String>)) -> Vec<Played> {
+    fn play_row<T>(&mut self, page: &Page, row: &(usize, Vec<String>), play: fn(&mut Check, Outcome, &str) -> Result<T, String>) -> Vec<T> {
         let (at, cells) = row;
         let mut played = vec![];
         let outcome = match outcome_in_cell(&cells[1]) {
@@ -540,7 +654,7 @@ impl Check {
         self.expect(!examples.is_empty(), page, *at, "the row has no example");
         for example in examples {
             self.examples += 1;
-            match self.play_example(outcome, example) {
+            match play(self, outcome, example) {
                 Ok(one) => played.push(one),
                 Err(what) => self.differs(page, *at, &format!("'{example}': {what}")),
             }
@@ -548,15 +662,27 @@ impl Check {
         played
     }
 
-    // Plays a worked example, in which every call has its answer behind an arrow.
+    // Plays a worked example, in which every call has its answer behind an arrow. The lines of a table are indented.
     fn play_block(&mut self, page: &Page, block: &Block) {
         let mut kernel = self.setting;
         self.examples += 1;
-        for line in &block.lines {
-            if let Err(what) = self.play_line(&mut kernel, &line.text) {
-                self.differs(page, line.at, &format!("'{}': {what}", line.text));
+        for lines in block.lines.chunk_by(|_, next| next.text.starts_with("  ")) {
+            let (first, rest) = lines.split_first().expect("a chunk has a line");
+            let played = match first.text.strip_prefix("table -> ") {
+                Some(code) => self.play_lines(&mut kernel, code, rest),
+                None if rest.is_empty() => self.play_line(&mut kernel, &first.text),
+                None => Err("the lines below it belong to no table".to_string()),
+            };
+            if let Err(what) = played {
+                self.differs(page, first.at, &format!("'{}': {what}", first.text));
             }
         }
+    }
+
+    // A table with this code.
+    fn play_lines(&mut self, kernel: &mut Kernel, code: &str, lines: &[Line]) -> Result<(), String> {
+        let table = CallTable::of(lines.iter().map(|line| line.text.as_str()))?;
+        table.play(kernel, outcome_named(code)?, &mut self.seen)
     }
 
     fn play_line(&mut self, kernel: &mut Kernel, text: &str) -> Result<(), String> {
@@ -565,11 +691,7 @@ impl Check {
             None => (text, None),
         };
         let given = play(kernel, &step_of(step)?, &mut self.seen);
-        let expected = answer.map(|answer| {
-            let (name, words) = answer.split_once(' ').unwrap_or((answer, ""));
-            answer_of(outcome_named(name)?, words)
-        });
-        match (given, expected.transpose()?) {
+        match (given, answer.map(whole_answer).transpose()?) {
             (None, None) => Ok(()),
             (Some(given), Some(expected)) if given == expected => Ok(()),
             (Some(given), _) => Err(format!("the kernel gives {given}")),
@@ -578,18 +700,18 @@ impl Check {
     }
 
     // The rows of a table of checks stand in the steps' order, each with its step's code.
-    fn check_order(&mut self, page: &Page, table: &Table, accepts: impl Fn(Outcome) -> bool) {
+    fn check_order(&mut self, page: &Page, table: &Table, steps: &[(&str, &str)], accepts: impl Fn(Outcome) -> bool) {
         let mut reached = 0;
         for (at, cells) in &table.rows {
             let (step, code) = (cells[0].as_str(), cells[1].as_str());
-            let place = if step == ACCEPTED { Some(STEPS.len()) } else { STEPS.iter().position(|row| row.0 == step) };
+            let place = if step == ACCEPTED { Some(steps.len()) } else { steps.iter().position(|row| row.0 == step) };
             let Some(place) = place else {
                 self.differs(page, *at, &format!("there is no step '{step}'"));
                 continue;
             };
             self.expect(reached <= place, page, *at, "the row comes after a later step");
             reached = place;
-            let right = match STEPS.get(place) {
+            let right = match steps.get(place) {
                 Some(row) => code.split(' ').next() == Some(row.1),
                 None => outcome_in_cell(code).is_ok_and(&accepts),
             };
@@ -598,18 +720,15 @@ impl Check {
     }
 
     // The steps that are on the page are those that can refuse the call.
-    fn check_steps(&mut self, page: &Page, at: usize, table: &Table, can_refuse: impl Fn(&str) -> bool) {
-        for (step, _) in STEPS {
+    fn check_steps(&mut self, page: &Page, at: usize, table: &Table, steps: &[(&str, &str)], can_refuse: impl Fn(&str) -> bool) {
+        for (step, _) in steps.iter().copied() {
             let written = table.rows.iter().any(|row| row.1[0] == step);
             let what = if written { "the call has no such step" } else { "the step is missing" };
             self.expect(written == can_refuse(step), page, at, &format!("step {step}: {what}"));
         }
     }
 
-    fn check_names(&mut self, page: &Page, section: &Section, row: &CallRow) {
-        let name = row.name;
-        let forms = if row.i_form { vec![name.to_string(), format!("i{name}")] } else { vec![name.to_string()] };
-        let expected: Vec<String> = forms.iter().map(|form| format!("linguastel_{form}")).chain(forms.iter().cloned()).collect();
+    fn check_names(&mut self, page: &Page, section: &Section, expected: &[String]) {
         for one in expected.iter().filter(|one| !self.declared.contains(*one)).cloned().collect::<Vec<String>>() {
             self.differs(page, section.at, &format!("neither the header nor the wrapper has {one}"));
         }
@@ -630,7 +749,7 @@ impl Check {
 
     fn play_checks(&mut self, page: &Page, checks: &Table, call: usize) {
         for row in &checks.rows {
-            let played = self.play_row(page, row);
+            let played = self.play_row(page, row, Check::play_example);
             self.expect(played.iter().all(|one| one.call.number as usize == call), page, row.0, "an example is one of another call");
             self.shown[call].extend(played.iter().map(|one| one.sight));
         }
@@ -638,7 +757,7 @@ impl Check {
 
     fn play_ends(&mut self, page: &Page, ends: &Table, call: usize) {
         for row in &ends.rows {
-            let played = self.play_row(page, row);
+            let played = self.play_row(page, row, Check::play_example);
             let right = played.iter().all(|one| one.kernel.starter(&one.call) == Some(call));
             self.expect(right, page, row.0, "an example doesn't fetch the end of this call's wait");
         }
@@ -649,26 +768,46 @@ impl Check {
         let Some(row) = CALLS.get(call).filter(|row| row.name == name && page.file.ends_with(row.page)) else {
             return self.differs(page, section.at, "no call with this number and name belongs on this page");
         };
-        self.check_names(page, section, row);
+        self.check_names(page, section, &row.names());
         self.check_parameters(page, section, row);
-        self.expect(section.blocks.iter().any(|block| block.kind == "calls"), page, section.at, "the worked example is missing");
+        self.check_worked(page, section);
         let Some(checks) = section.table(&CHECKS) else {
             return self.differs(page, section.at, "the table of checks is missing");
         };
-        self.check_order(page, checks, |outcome| can_accept(call, outcome));
-        self.check_steps(page, section.at, checks, |step| can_refuse(step, call));
+        self.check_order(page, checks, &STEPS, |outcome| can_accept(call, outcome));
+        self.check_steps(page, section.at, checks, &STEPS, |step| can_refuse(step, call));
         self.play_checks(page, checks, call);
         if let Some(ends) = section.table(&ENDS) {
             self.play_ends(page, ends, call);
         }
     }
 
+    fn check_worked(&mut self, page: &Page, section: &Section) {
+        self.expect(section.blocks.iter().any(|block| block.kind == "calls"), page, section.at, "the worked example is missing");
+    }
+
+    // The section on tables of calls.
+    fn check_call_table(&mut self, page: &Page, section: &Section) {
+        self.check_names(page, section, &TABLE_NAMES.map(String::from));
+        self.check_worked(page, section);
+        let Some(checks) = section.table(&TABLE_CHECKS) else {
+            return self.differs(page, section.at, "the table of checks is missing");
+        };
+        self.check_order(page, checks, &TABLE_STEPS, |outcome| outcome == E_OK);
+        self.check_steps(page, section.at, checks, &TABLE_STEPS, |_| true);
+        let shown: Vec<_> = checks.rows.iter().flat_map(|row| self.play_row(page, row, Check::play_table_example)).collect();
+        for lengths in TABLE_LENGTHS.iter().filter(|lengths| !shown.contains(lengths)) {
+            let (code, calls, cells) = lengths;
+            self.differs(page, section.at, &format!("no example shows that {calls} calls with {cells} cells give {code}"));
+        }
+    }
+
     // The table of checks that all calls share: every step, and no accepted call.
     fn check_table(&mut self, page: &Page, at: usize, table: &Table) {
-        self.check_order(page, table, |_| false);
-        self.check_steps(page, at, table, |_| true);
+        self.check_order(page, table, &STEPS, |_| false);
+        self.check_steps(page, at, table, &STEPS, |_| true);
         for row in &table.rows {
-            self.play_row(page, row);
+            self.play_row(page, row, Check::play_example);
         }
     }
 
@@ -706,6 +845,7 @@ impl Check {
         for section in &page.sections {
             match section.call() {
                 Some((call, name)) => self.check_call(page, section, call, name),
+                None if section.is_of_tables() => self.check_call_table(page, section),
                 None => self.check_common(page, section),
             }
             for block in section.blocks.iter().filter(|block| block.kind == "calls") {
@@ -859,32 +999,36 @@ fn setting_of(pages: &[Page], seen: &mut Seen) -> Result<Kernel, String> {
     Ok(kernel)
 }
 
-// What differs on no page in particular: each call has one section, each common table is there once, and an unknown number gives E_PAR alone.
+// What differs on no page in particular: each call has one section and so have tables of calls, each common table is there once, an unknown number
+// gives E_PAR alone, and header and wrapper name the most calls of a table.
 fn differences(pages: &[Page], seen: &Seen) -> Vec<String> {
-    let (calls, common): (Vec<&Section>, Vec<&Section>) =
-        pages.iter().flat_map(|page| &page.sections).partition(|section| section.call().is_some());
+    let (calls, common): (Vec<&Section>, Vec<&Section>) = pages.iter().flat_map(|page| &page.sections).partition(|section| section.call().is_some());
     let sections = |call: usize| calls.iter().filter(|section| section.call().is_some_and(|found| found.0 == call)).count();
     let tables = |header: &[&str]| common.iter().filter(|section| section.table(header).is_some()).count();
-    let wrong_calls =
-        (0..CALLS.len()).filter(|call| sections(*call) != 1).map(|call| format!("call {call} has {} sections", sections(call)));
+    let wrong_calls = (0..CALLS.len()).filter(|call| sections(*call) != 1).map(|call| format!("call {call} has {} sections", sections(call)));
     let headers = [&CHECKS[..], &CODE_LIST[..], &CALL_LIST[..]];
-    let wrong_tables = headers
-        .iter()
-        .filter(|header| tables(header) != 1)
-        .map(|header| format!("the common table '{}' isn't there once", header.join(" | ")));
+    let wrong_tables =
+        headers.iter().filter(|header| tables(header) != 1).map(|header| format!("the common table '{}' isn't there once", header.join(" | ")));
     let mut found: Vec<String> = wrong_calls.chain(wrong_tables).collect();
     if seen.answers[CALLS.len()].iter().any(|sight| sight.outcome != E_PAR) {
         found.push("unknown numbers give another answer than E_PAR".to_string());
     }
+    if common.iter().filter(|section| section.is_of_tables()).count() != 1 {
+        found.push("the section 'table' isn't there once".to_string());
+    }
+    if linguastel::TABLE != MOST_CALLS || !HEADER.contains(&format!("LINGUASTEL_TABLE = {MOST_CALLS},")) {
+        found.push(format!("the header or the wrapper names another number of calls in a table than {MOST_CALLS}"));
+    }
     found
 }
 
-// The functions that hosts call: those of the header, and the wrapper's methods.
+const HEADER: &str = include_str!("../../../c/linguastel.h");
+const WRAPPER: &str = include_str!("../lib.rs");
+
+// The functions that hosts call: those of the header, which give an answer or a code, and the wrapper's methods.
 fn declared() -> BTreeSet<String> {
-    let header = include_str!("../../../c/linguastel.h");
-    let wrapper = include_str!("../lib.rs");
-    let in_c = header.split("LinguastelAnswer ").skip(1);
-    let in_rust = wrapper.split("pub fn ").skip(1);
+    let in_c = HEADER.split("LinguastelAnswer ").skip(1).chain(HEADER.split("int32_t ").skip(1));
+    let in_rust = WRAPPER.split("pub fn ").skip(1);
     in_c.chain(in_rust).filter_map(|text| text.split_once('(')).map(|(name, _)| name.to_string()).collect()
 }
 

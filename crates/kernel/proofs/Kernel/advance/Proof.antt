@@ -1,20 +1,16 @@
--- `Kernel::advance` applies what is decided on what is seen of a sound record.
-use Rattle.kernel.proofs.Outcomes.{decided-appliable, advanced}
-use borrow.Author.Needs.{needs}
+-- `Kernel::advance` applies the judgement of a sound record.
+use Rattle.kernel.proofs.Outcomes.{stepped}
 use Rattle.kernel.proofs.Kernel.advance.Statement.{statement}
 use Rattle.kernel.proofs.Kernel.advance.Tie as tie
 
-view-requires : tie.Need-view-requires
-view-requires c κs = c .before .pre
-
-decide-requires : tie.Need-decide-requires
-decide-requires c κs = search needs
+judge-sound-requires : tie.Need-judge-sound-requires
+judge-sound-requires c κs = c .before .pre
 
 apply-requires : tie.Need-apply-requires
-apply-requires c κs = decided-appliable (c .before .before .before .pre) (c .decide .ensures _ (c .before .view .ensures))
+apply-requires c κs = c .judge-sound .ensures .appliable
 
 returns : tie.Need-returns
-returns c = advanced (c .apply .ensures) (c .before .before .before .before .pre) (c .before .decide .ensures _ (c .before .before .view .ensures))
+returns c = stepped (c .apply .ensures) (c .before .judge-sound .ensures)
 
 pub advance-spec : {M : Type 1} → statement M
-advance-spec = tie.close (tie.spec view-requires decide-requires apply-requires returns)
+advance-spec = tie.close (tie.spec judge-sound-requires apply-requires returns)

@@ -1,7 +1,7 @@
 -- `sound` gives the test's outcome.
 use borrow.Author.Needs.{needs}
-use Rattle.laps.proofs.sound.Statement.{statement}
-use Rattle.laps.proofs.sound.Tie as tie
+use Rattle.see.proofs.sound.Statement.{statement}
+use Rattle.see.proofs.sound.Tie as tie
 
 see-requires : tie.Need-see-requires
 see-requires c κs = search needs
