@@ -1,13 +1,14 @@
 -- What the walk over the two tables leaves is what document 02's item 2 asks: by the test, and by the turns that were made. Calls, answers and codes may be written otherwise, as for hosts.
 use mathlib.Core.Path.{_≡_, refl, sym, ap, _∙_, subst}
-use mathlib.Core.Bool.{Bool, true, false, not}
+use mathlib.Core.Bool.{Bool, not, cond}
 use mathlib.Core.List.{List, [], _∷_, _++_}
 use Prim.Native.Nat.{ℕ, zero, suc, _+_, _≤_, _<_}
 use native.Mathlib.Nat.{zero-add}
 use native.Mathlib.Omega.{arith}
 use native.Mathlib.Decide.{decLt}
 use lib.Dec.{T, T-not, ltb, nltb→le}
-use lib.ListN.{length, set, drop}
+use lib.ListN.{length, drop}
+use borrow.Author.Tests.{eq-eqb, ne-eqb}
 use lib.Seq.{sets, sets-eq}
 use Rattle.thin.proofs.Table.{Rest, over, turn}
 use Rattle.rows.specs.Runs.{Run, no-call, one-call}
@@ -34,6 +35,17 @@ use Rattle.kernel.proofs.Arms.{nothing-done}
 use Rattle.tables.specs.Tested.{TestedAs}
 
 -- ── One call ──
+
+abbrev numbered : ℕ → Call → Call
+numbered n c = record { number = n; caller = c .caller; locked = c .locked; disabled = c .disabled; object = c .object; value = c .value; tmout = c .tmout; attribute = c .attribute }
+
+pub read-as-unknown : (c : Call) → c .number ≡ 0 → numbered 24 c ≡ in-table c
+unfolding in-table
+read-as-unknown c e = ap (λ b. numbered (cond b 24 (c .number)) c) (sym (eq-eqb _ _ e))
+
+pub read-as-it-is : (c : Call) → (c .number ≡ 0 → ⊥) → c ≡ in-table c
+unfolding in-table
+read-as-it-is c n = ap (λ b. numbered (cond b 24 (c .number)) c) (sym (ne-eqb _ _ n))
 
 -- A sound record stays sound, so the next call needs no test.
 pub stays-sound : {s : State} (c : Call) {r : Step} → Stepped s c r → Sound s → Sound (r .state)

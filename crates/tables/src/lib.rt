@@ -93,8 +93,8 @@ pub fn read(lent: State) -> State
     lent
 }
 
-pub fn written(lent: State, state: State) -> State
-    ensures { λ r. ⌜ r ≡ state ⌝ }
+pub fn written(lent: State, last: State) -> State
+    ensures { λ r. ⌜ r ≡ last ⌝ }
 {
-    state
+    last
 }
