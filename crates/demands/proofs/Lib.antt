@@ -3,6 +3,7 @@ pub mod Handled
 pub mod Conforms
 pub mod Waiting
 pub mod Isolated
+pub mod Tables
 pub mod NoLostWakeUp
 pub mod TimeOuts
 pub mod StoredPair

@@ -1,5 +1,5 @@
 -- A step of a sound record follows the definition, whatever the call's number; so does a run, however its calls are made; and lists run: by induction on the run.
-use mathlib.Core.Path.{_≡_, refl, sym, ap, _∙_, subst}
+use mathlib.Core.Path.{_≡_, refl, sym, ap, ap₂, _∙_, subst}
 use mathlib.Core.Bool.{not}
 use mathlib.Core.List.{List, [], _∷_, map}
 use Prim.Native.Nat.{ℕ, _≤_, _<_}
@@ -8,8 +8,9 @@ use native.Mathlib.Decide.{decLt}
 use lib.Dec.{T, eqb, not-T, eqb→eq, lt→ltb}
 use Rattle.lists.specs.Lists.{Each, none, both}
 use Rattle.rows.specs.Program as Program
-use Rattle.rows.specs.Runs.{end, answers, Run, no-call, one-call}
+use Rattle.rows.specs.Runs.{end, answers, in-a-row, Run, no-call, one-call}
 use Rattle.rows.specs.Merges.{end-of-turns, answers-of-turns}
+use Rattle.rows.proofs.Runs.{runs-follow}
 use Rattle.model.specs.Sizes.{call-limit}
 use Rattle.model.specs.Rows.{Model}
 use Rattle.model.specs.Codes.{values, finished}
@@ -106,57 +107,78 @@ pub record Faithful {S C A : Type 0} (E : Engine S) (F : Interface S C A) : Type
   pub values-are : (x : Answer) → F .values-of (answer-of x) ≡ values x
   pub steps : {s after : S} {c : C} {given : A} → F .Steps s c after given → SteppedAs E (F .call-of) answer-of s c after given
 
-pub by-value-faithful : {S : Type 0} (E : Engine S) → Faithful E (by-value E)
+abbrev pub by-value-faithful : {S : Type 0} (E : Engine S) → Faithful E (by-value E)
 by-value-faithful E = record { answer-of = λ x. x; values-are = λ x. refl; steps = λ h. record { answer = _; stepped = h; given-is = refl } }
 
--- What f makes of each turn's call or answer.
-unfoldable pub each-turn : {I X Y : Type 0} → (X → Y) → List (I × X) → List (I × Y)
-each-turn f [] = []
-each-turn f (turn ∷ turns) = (turn .0, f (turn .1)) ∷ each-turn f turns
+-- ── What is made on records follows what is defined on states ──
 
-cons-≡ : {X : Type 0} {x y : X} {xs ys : List X} → x ≡ y → xs ≡ ys → x ∷ xs ≡ y ∷ ys
-cons-≡ e es = λ i. e i ∷ es i
+-- `defined` is what a call, a table or a list of them does to a state. Made on a sound record, it leaves a sound one, which means the state that `defined` leaves.
+pub record AsDefined {S X Y : Type 0} (E : Engine S) (defined : Model → X → Program.Result Model Y) (s : S) (x : X) (after : S) (given : Y) : Type 0 where
+  pub meaning-is : E .abs after ≡ defined (E .abs s) x .state
+  pub given-is : given ≡ defined (E .abs s) x .answer
+  pub sound : E .Sound after
+
+pub record StepsAsDefined {S X Y : Type 0} (E : Engine S) (Steps : S → X → S → Y → Type 0) (defined : Model → X → Program.Result Model Y) : Type 0 where
+  pub each-step : {s after : S} {x : X} {given : Y} → E .Sound s → Steps s x after given → AsDefined E defined s x after given
+
+-- Turns, made one after the other.
+abbrev pub in-turn : {I X Y : Type 0} → (Model → X → Program.Result Model Y) → Model → List (I × X) → Program.Result Model (List (I × Y))
+in-turn defined m turns = record { state = end-of-turns defined m turns; answer = answers-of-turns defined m turns }
 
 -- A run from a sound record is the definition's run from what the record means.
-pub record RunFollows {S C A : Type 0} (E : Engine S) (call-of : C → Call) (answer-of : Answer → A) (s : S) (calls : List C) (last : S) (given : List A) : Type 0 where
-  pub meaning-is : E .abs last ≡ end step (E .abs s) (map call-of calls)
-  pub answers-are : given ≡ map answer-of (answers step (E .abs s) (map call-of calls))
-  pub sound : E .Sound last
+module _ {S X Y : Type 0} {E : Engine S} {Steps : S → X → S → Y → Type 0} {defined : Model → X → Program.Result Model Y} (steps : StepsAsDefined E Steps defined) where
+  pub run-as-defined : {s last : S} {xs : List X} {given : List Y} → E .Sound s → Run Steps s xs last given → AsDefined E (in-a-row defined) s xs last given
+  unfolding in-a-row
+  run-as-defined sound run =
+      let f = runs-follow (E .abs) (E .Sound) defined (λ s after x given sound h. let k = steps .each-step sound h in (k .meaning-is, k .given-is, k .sound)) sound run in
+      record { meaning-is = f .0; given-is = f .1; sound = f .2 }
 
-pub record TurnsFollow {I S C A : Type 0} (E : Engine S) (call-of : C → Call) (answer-of : Answer → A) (s : S) (turns : List (I × C)) (last : S) (given : List (I × A)) : Type 0 where
-  pub meaning-is : E .abs last ≡ end-of-turns step (E .abs s) (each-turn call-of turns)
-  pub answers-are : given ≡ each-turn answer-of (answers-of-turns step (E .abs s) (each-turn call-of turns))
-  pub sound : E .Sound last
+  pub turns-as-defined : {I : Type 0} {s last : S} {turns : List (I × X)} {given : List (I × Y)} → E .Sound s → RunOfTurns Steps s turns last given
+      → AsDefined E (in-turn defined) s turns last given
+  unfolding end-of-turns answers-of-turns
+  turns-as-defined sound no-turn = record { meaning-is = refl; given-is = refl; sound = sound }
+  turns-as-defined sound (one-turn {i = i} {turns = turns} h rest) =
+      let f = steps .each-step sound h in
+      let others = turns-as-defined (f .sound) rest in
+      record {
+        meaning-is = others .meaning-is ∙ ap (λ m. end-of-turns defined m turns) (f .meaning-is);
+        given-is = ap₂ (λ y l. (i, y) ∷ l) (f .given-is) (others .given-is ∙ ap (λ m. answers-of-turns defined m turns) (f .meaning-is));
+        sound = others .sound;
+      }
+
+-- What a call does, and a list of calls, where calls and answers are written otherwise.
+module _ {C A : Type 0} (call-of : C → Call) (answer-of : Answer → A) where
+  abbrev pub written : Model → C → Program.Result Model A
+  written m c = record { state = step m (call-of c) .state; answer = answer-of (step m (call-of c) .answer) }
+
+  abbrev pub all-written : Model → List C → Program.Result Model (List A)
+  all-written m calls = record { state = end step m (map call-of calls); answer = map answer-of (answers step m (map call-of calls)) }
+
+  written-in-a-row : (m : Model) (calls : List C) → in-a-row written m calls ≡ all-written m calls
+  unfolding in-a-row end answers
+  written-in-a-row m [] = refl
+  written-in-a-row m (c ∷ calls) =
+      let o = written m c in ap (λ (r : Program.Result Model (List A)). record { state = r .state; answer = o .answer ∷ r .answer }) (written-in-a-row (o .state) calls)
+
+  module _ {S : Type 0} {E : Engine S} where
+    pub steps-as-defined : StepsAsDefined E (SteppedAs E call-of answer-of) written
+    steps-as-defined = record {
+      each-step = λ sound h.
+          let f = follows (h .stepped) sound in record { meaning-is = f .meaning-is; given-is = h .given-is ∙ ap answer-of (f .answer-is); sound = f .sound };
+    }
+
+    pub run-written : {Steps : S → C → S → A → Type 0} → StepsAsDefined E Steps written
+        → {s last : S} {calls : List C} {given : List A} → E .Sound s → Run Steps s calls last given → AsDefined E all-written s calls last given
+    run-written steps {s} {last} {calls} {given} sound run =
+        subst (λ defined. AsDefined E defined s calls last given) (λ i m cs. written-in-a-row m cs i) (run-as-defined steps sound run)
 
 module _ {S C A : Type 0} {E : Engine S} {F : Interface S C A} (faithful : Faithful E F) where
-  pub run-follows : {s last : S} {calls : List C} {given : List A} → E .Sound s → Run (F .Steps) s calls last given → RunFollows E (F .call-of) (faithful .answer-of) s calls last given
-  unfolding end answers
-  run-follows sound no-call = record { meaning-is = refl; answers-are = refl; sound = sound }
-  run-follows sound (one-call {calls = calls} h rest) =
-      let k = faithful .steps h in
-      let f = follows (k .stepped) sound in
-      let others = run-follows (f .sound) rest in
-      record {
-        meaning-is = others .meaning-is ∙ ap (λ m. end step m (map (F .call-of) calls)) (f .meaning-is);
-        answers-are = cons-≡ (k .given-is ∙ ap (faithful .answer-of) (f .answer-is))
-            (others .answers-are ∙ ap (λ m. map (faithful .answer-of) (answers step m (map (F .call-of) calls))) (f .meaning-is));
-        sound = others .sound;
-      }
+  pub calls-as-defined : StepsAsDefined E (F .Steps) (written (F .call-of) (faithful .answer-of))
+  calls-as-defined = record { each-step = λ sound h. steps-as-defined (F .call-of) (faithful .answer-of) .each-step sound (faithful .steps h) }
 
-  pub turns-follow : {I : Type 0} {s last : S} {turns : List (I × C)} {given : List (I × A)} → E .Sound s → RunOfTurns (F .Steps) s turns last given
-      → TurnsFollow E (F .call-of) (faithful .answer-of) s turns last given
-  unfolding end-of-turns answers-of-turns each-turn
-  turns-follow sound no-turn = record { meaning-is = refl; answers-are = refl; sound = sound }
-  turns-follow sound (one-turn {i = i} {turns = turns} h rest) =
-      let k = faithful .steps h in
-      let f = follows (k .stepped) sound in
-      let others = turns-follow (f .sound) rest in
-      record {
-        meaning-is = others .meaning-is ∙ ap (λ m. end-of-turns step m (each-turn (F .call-of) turns)) (f .meaning-is);
-        answers-are = cons-≡ (ap (λ x. (i, x)) (k .given-is ∙ ap (faithful .answer-of) (f .answer-is)))
-            (others .answers-are ∙ ap (λ m. each-turn (faithful .answer-of) (answers-of-turns step m (each-turn (F .call-of) turns))) (f .meaning-is));
-        sound = others .sound;
-      }
+  pub run-follows : {s last : S} {calls : List C} {given : List A} → E .Sound s → Run (F .Steps) s calls last given
+      → AsDefined E (all-written (F .call-of) (faithful .answer-of)) s calls last given
+  run-follows = run-written (F .call-of) (faithful .answer-of) calls-as-defined
 
 -- ── Lists run ──
 

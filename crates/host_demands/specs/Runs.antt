@@ -3,18 +3,22 @@
 use mathlib.Core.Path.{_≡_}
 use mathlib.Core.Bool.{cond}
 use lib.Dec.{eqb}
-use lib.IntN.{pos}
-use Rattle.model.specs.Codes.{Values, values}
+use lib.IntN.{ℤ, pos}
+use Rattle.model.specs.Codes.{Values, values, number}
 use Rattle.model.specs.declared.Answer.{Answer}
 use Rattle.model.specs.declared.Call.{Call}
+use Rattle.model.specs.declared.Code.{Code}
 use Rattle.record.specs.declared.State.{State}
 use Rattle.demands.specs.Runs.{ListsRun, ModelsRunAs, Interface}
+use Rattle.demands.specs.Tables.{Tables}
 use Rattle.entry.specs.Entered.{Entered}
 use Rattle.host_calls.specs.Calls.{call-of, answer-of}
 use Rattle.host_calls.specs.declared.HostAnswer.{HostAnswer}
 use Rattle.host_calls.specs.declared.HostCall.{HostCall}
 use Rattle.host_record.specs.declared.HostRecord.{HostRecord}
 use Rattle.linguastel.specs.Called.{Called}
+use Rattle.linguastel_table.specs.TableCalled.{TableCalled}
+use Rattle.table_entry.specs.TableEntered.{TableEntered}
 
 -- Through the thin entry.
 abbrev pub through-entry : Interface State Call Answer
@@ -31,6 +35,16 @@ HostValues = (x : Answer) → host-values (answer-of x) ≡ values x
 -- Through the function that hosts call, a call of number 0 being the tick.
 abbrev pub for-hosts : Interface HostRecord HostCall HostAnswer
 for-hosts = record { call-of = call-of; values-of = host-values; Steps = Called }
+
+-- ── Tables of calls (document 02, item 2) ──
+
+abbrev pub tables-through-entry : Tables through-entry Code
+tables-through-entry = record { number-of = number; Makes = TableEntered }
+
+abbrev pub tables-for-hosts : Tables for-hosts ℤ
+tables-for-hosts = record { number-of = λ code. code; Makes = TableCalled }
+
+-- ── Lists run ──
 
 -- The same of steps through the entry and of hosts' calls; and there are runs in the host's numbers.
 abbrev pub ListsRunThroughEntry : Type 1

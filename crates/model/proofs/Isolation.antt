@@ -1,22 +1,27 @@
 -- Demand 3: a carrier's part of the state is its rows with whatever stands in its objects at the start; no other carrier's call touches it.
 use mathlib.Core.Path.{_≡_, refl, sym, _∙_, ap, subst}
 use mathlib.Core.Bool.{Bool, true, false, cond}
+use mathlib.Core.List.{List, []}
 use mathlib.Core.Option.{Option, none, some, Option·map, Option·getD}
 use Prim.Native.Nat.{ℕ}
 use native.Mathlib.Omega.{arith}
 use lib.Dec.{T, eqb}
-use Rattle.lists.specs.Lists.{none}
+use Rattle.lists.specs.Lists.{Each, none}
 use Rattle.lists.proofs.Each.{each-map, each-beside}
 use Rattle.lists.specs.Options.{IfSome}
 use Rattle.rows.specs.Program as Program
 use Rattle.rows.proofs.Footprint.{Closed}
 use Rattle.rows.proofs.Owned.{separate-programs}
-use Rattle.rows.proofs.Two.{two-lists, each-list, each-caller, two-of}
-use Rattle.model.specs.Rows.{Key, task, suspension, queue, mailbox, message, same-key, Row, nothing, empty-state}
+use Rattle.rows.specs.Merge.{Separate}
+use Rattle.rows.specs.Merges.{SeparateAll}
+use Rattle.rows.proofs.Two.{two-lists, each-list, two-of}
+use Rattle.rows.proofs.InARow.{MadeOf, made-of-calls, single-made, rows-made}
+use Rattle.model.specs.Rows.{Key, task, suspension, queue, mailbox, message, same-key, Row, Model, nothing, empty-state}
 use Rattle.model.specs.Calls.{Call}
 use Rattle.model.specs.Waits.{Wait, WaitQueue, senders-of, receivers-of, waiters-of, object-of, wait-queue, object-named}
 use Rattle.model.specs.Step.{program, step}
-use Rattle.model.specs.Isolation.{WaitsAt, Linked, QueuedIn, Placed, CallOf, Carrier, owns, Own, Isolation, IsolationFromEmpty, Owners, owner, OwnedBy, IsolationOfMany}
+use Rattle.model.specs.Isolation.{WaitsAt, Linked, QueuedIn, Placed, CallOf, Carrier, owns, Own, ListsOfTwo, Isolation, IsolationFromEmpty, Owners, owner, OwnedBy, IsolationOfMany}
+use Rattle.model.specs.Isolation.{IsolationInRows, IsolationOfManyInRows}
 use Rattle.model.proofs.Choices.{cond-no, cond-both}
 use Rattle.model.proofs.Step.{step-call}
 use Rattle.model.proofs.Footprints.{NamedIn, in-program}
@@ -153,27 +158,48 @@ owner-is a b (queue n) = refl
 owner-is a b (mailbox n) = refl
 owner-is a b (message n) = refl
 
+-- ── Entries made of calls: single calls, and calls in a row, as a table's ──
+
+-- `entry` is the step of one entry, `calls` are the calls that a list of entries stands for (crate rows, InARow).
+module _ {X B : Type 0} {entry : Model → X → Program.Result Model B} {calls : List X → List Call} (made : MadeOf step entry calls) where
+  pub many-carriers : (I : Type 0) (same-owner : Discrete I) (m : Model) → Linked (m .rows) → (o : Owners I) (lists : I → List X)
+      → ((i : I) → (calls (lists i) ≡ [] → ⊥) → Placed (OwnedBy o i) (m .rows)) → ((i : I) → Each (CallOf (OwnedBy o i)) (calls (lists i)))
+      → SeparateAll same-owner entry m lists
+  many-carriers I same-owner m linked o lists placed own = made-of-calls same-owner made m lists (isolation-of-many I same-owner m linked o (λ i. calls (lists i)) placed own)
+
+  pub two-carriers : (m : Model) → Linked (m .rows) → (a b : Carrier) → Placed (Own a) (m .rows) → Placed (Own b) (m .rows)
+      → (xs ys : List X) → ListsOfTwo (λ c. c) a b (calls xs) (calls ys) → Separate entry m xs ys
+  two-carriers m linked a b placed-a placed-b xs ys two =
+      two-of same-who first second differ entry m xs ys
+      (many-carriers Who same-who m linked (owners a b) (two-lists same-who first second xs ys)
+      (each-list same-who first second differ (λ i l. (calls l ≡ [] → ⊥) → Placed (OwnedBy (owners a b) i) (m .rows)) (λ i calling. absurd (calling (made .no-entry)))
+      (λ calling. placed-into in-a of-a (m .rows) placed-a) (λ calling. placed-into in-b of-b (m .rows) placed-b))
+      (each-list same-who first second differ (λ i l. Each (CallOf (OwnedBy (owners a b) i)) (calls l)) (λ i. rw (made .no-entry) none)
+      (each-map (call-into in-a) (two .calls-of-a)) (each-map (call-into in-b) (two .calls-of-b))))
+    where
+      differ : first ≡ second → ⊥
+      differ e = let z : _≡_ {A = ℕ} 0 1 = cc in omega arith
+
+      in-a : (k : Key) → Own a k → OwnedBy (owners a b) first k
+      in-a k h = owner-is a b k ∙ is-first (owns a k) (owns b k) h
+
+      of-a : (k : Key) → OwnedBy (owners a b) first k → Own a k
+      of-a k h = of-first (owns a k) (owns b k) (sym (owner-is a b k) ∙ h)
+
+      in-b : (k : Key) → Own b k → OwnedBy (owners a b) second k
+      in-b k h = owner-is a b k ∙ is-second (owns a k) (owns b k) (two .disjoint k) h
+
+      of-b : (k : Key) → OwnedBy (owners a b) second k → Own b k
+      of-b k h = of-second (owns a k) (owns b k) (sym (owner-is a b k) ∙ h)
+
 pub isolation : Isolation
-isolation m linked a b placed-a placed-b xs ys two =
-    two-of same-who first second differ step m xs ys
-    (isolation-of-many Who same-who m linked (owners a b) (two-lists same-who first second xs ys)
-    (each-caller same-who first second differ (λ i. Placed (OwnedBy (owners a b) i) (m .rows)) xs ys (placed-into in-a of-a (m .rows) placed-a) (placed-into in-b of-b (m .rows) placed-b))
-    (each-list same-who first second differ (λ i. CallOf (OwnedBy (owners a b) i)) (each-map (call-into in-a) (two .calls-of-a)) (each-map (call-into in-b) (two .calls-of-b))))
-  where
-    differ : first ≡ second → ⊥
-    differ e = let z : _≡_ {A = ℕ} 0 1 = cc in omega arith
+isolation = two-carriers (single-made step)
 
-    in-a : (k : Key) → Own a k → OwnedBy (owners a b) first k
-    in-a k h = owner-is a b k ∙ is-first (owns a k) (owns b k) h
+pub isolation-in-rows : IsolationInRows
+isolation-in-rows = two-carriers (rows-made step)
 
-    of-a : (k : Key) → OwnedBy (owners a b) first k → Own a k
-    of-a k h = of-first (owns a k) (owns b k) (sym (owner-is a b k) ∙ h)
-
-    in-b : (k : Key) → Own b k → OwnedBy (owners a b) second k
-    in-b k h = owner-is a b k ∙ is-second (owns a k) (owns b k) (two .disjoint k) h
-
-    of-b : (k : Key) → OwnedBy (owners a b) second k → Own b k
-    of-b k h = of-second (owns a k) (owns b k) (sym (owner-is a b k) ∙ h)
+pub isolation-of-many-in-rows : IsolationOfManyInRows
+isolation-of-many-in-rows = many-carriers (rows-made step)
 
 -- ── The premises can be met: the empty state meets them ──
 
@@ -183,6 +209,9 @@ linked-empty = record { senders = λ q. none; receivers = λ q. none; waiters = 
 placed-empty : (S : Key → Type 0) → Placed S nothing
 unfolding QueuedIn
 placed-empty S = record { tasks = λ t h. tt; messages = λ g h t. absurd t }
+
+pub placed-at-empty : {m : Model} {counter : ℕ} → m ≡ empty-state counter → (S : Key → Type 0) → Placed S (m .rows)
+placed-at-empty e S = subst (λ m. Placed S (m .rows)) (sym e) (placed-empty S)
 
 pub isolation-from-empty : IsolationFromEmpty
 isolation-from-empty counter a b xs ys two = isolation (empty-state counter) linked-empty a b (placed-empty (Own a)) (placed-empty (Own b)) xs ys two

@@ -29,3 +29,4 @@ pub mod KeptEnds
 pub mod WellFormed
 pub mod StoredPair
 pub mod TimeOuts
+pub mod Tables

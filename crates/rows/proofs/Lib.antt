@@ -4,3 +4,5 @@ pub mod Footprint
 pub mod Local
 pub mod Owned
 pub mod Two
+pub mod Runs
+pub mod InARow

@@ -2,18 +2,17 @@
 use mathlib.Core.Path.{_≡_, refl, sym, _∙_, ap, subst}
 use mathlib.Core.Bool.{Bool, true, false}
 use mathlib.Core.List.{List, [], _∷_}
-use Rattle.lists.specs.Lists.{Each, none}
 use Rattle.rows.specs.Program.{Result}
 use Rattle.rows.specs.Runs.{end, answers}
 use Rattle.rows.specs.Merge.{Merge, done, left, right, Separate}
 use Rattle.rows.specs.Merges.{keep-if, share, MergeOf, end-of-turns, answers-of-turns, SeparateAll}
 
-keep-yes : {P X : Type 0} (d : Dec P) (x : X) (l : List X) → P → keep-if d x l ≡ x ∷ l
+pub keep-yes : {P X : Type 0} (d : Dec P) (x : X) (l : List X) → P → keep-if d x l ≡ x ∷ l
 unfolding keep-if
 keep-yes (yes p) x l h = refl
 keep-yes (no n) x l h = absurd (n h)
 
-keep-no : {P X : Type 0} (d : Dec P) (x : X) (l : List X) → (P → ⊥) → keep-if d x l ≡ l
+pub keep-no : {P X : Type 0} (d : Dec P) (x : X) (l : List X) → (P → ⊥) → keep-if d x l ≡ l
 unfolding keep-if
 keep-no (yes p) x l n = absurd (n p)
 keep-no (no n) x l h = refl
@@ -76,25 +75,15 @@ module _ {I : Type 0} (same-owner : Discrete I) (a b : I) (differ : a ≡ b → 
   merge-of (left {x = x} m) i = choose-left (same-owner a i) (same-owner b i) x _ _ _ (merge-of m i)
   merge-of (right {y = y} m) i = choose-right (same-owner a i) (same-owner b i) y _ _ _ (λ p q. differ (p ∙ sym q)) (merge-of m i)
 
-  -- What holds of the two lists' elements holds of every owner's.
-  pub each-list : {X : Type 0} (Of : I → X → Type 0) {xs ys : List X} → Each (Of a) xs → Each (Of b) ys → (i : I) → Each (Of i) (two-lists same-owner a b xs ys i)
+  -- What holds of the two lists, and of no list, holds of every owner's list.
+  pub each-list : {X : Type 0} (Of : I → List X → Type 0) {xs ys : List X} → ((i : I) → Of i []) → Of a xs → Of b ys → (i : I) → Of i (two-lists same-owner a b xs ys i)
   unfolding two-lists choose
-  each-list Of {xs} {ys} p q i = go (same-owner a i) (same-owner b i)
+  each-list Of {xs} {ys} none p q i = go (same-owner a i) (same-owner b i)
     where
-      go : (d : Dec (a ≡ i)) (e : Dec (b ≡ i)) → Each (Of i) (choose d e xs ys)
-      go (yes h) e = subst (λ j. Each (Of j) xs) h p
-      go (no n) (yes h) = subst (λ j. Each (Of j) ys) h q
-      go (no n) (no h) = none
-
-  -- What holds of a and of b holds of every owner that has calls.
-  pub each-caller : {X : Type 0} (P : I → Type 0) (xs ys : List X) → P a → P b → (i : I) → (two-lists same-owner a b xs ys i ≡ [] → ⊥) → P i
-  unfolding two-lists choose
-  each-caller P xs ys p q i = go (same-owner a i) (same-owner b i)
-    where
-      go : (d : Dec (a ≡ i)) (e : Dec (b ≡ i)) → (choose d e xs ys ≡ [] → ⊥) → P i
-      go (yes h) e f = subst P h p
-      go (no n) (yes h) f = subst P h q
-      go (no n) (no h) f = absurd (f refl)
+      go : (d : Dec (a ≡ i)) (e : Dec (b ≡ i)) → Of i (choose d e xs ys)
+      go (yes h) e = subst (λ j. Of j xs) h p
+      go (no n) (yes h) = subst (λ j. Of j ys) h q
+      go (no n) (no h) = none i
 
   module _ {S R A : Type 0} (step : S → R → Result S A) where
     same-end : {turns : List Bool} {xs ys zs : List R} → Merge turns xs ys zs → (s : S) → end-of-turns step s (sided turns zs) ≡ end step s zs
