@@ -10,7 +10,6 @@ use Rattle.rows.specs.Merges.{share, MergeOf}
 use Rattle.model.specs.Rows.{empty-state}
 use Rattle.model.specs.Engine.{Engine}
 use Rattle.model.specs.Isolation.{Placed, CallOf, Carrier, Own, ListsOfTwo, Owners, OwnedBy}
-use Rattle.model.specs.declared.Call.{Call}
 use Rattle.demands.specs.Runs.{RunOfTurns, Interface}
 
 -- ── Two carriers ──

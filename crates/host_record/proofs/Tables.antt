@@ -1,5 +1,5 @@
 -- Calls made on the state that a host's record holds, the record being written back after the last one, are calls made on the record: between two calls it is the record that the state would be written back to.
-use mathlib.Core.Path.{_≡_, refl, sym, ap, _∙_, subst}
+use mathlib.Core.Path.{_≡_, sym, ap, _∙_, subst}
 use mathlib.Core.List.{List}
 use lib.Dec.{T}
 use lib.ListN.{length, length-map}
@@ -14,7 +14,6 @@ use Rattle.model.specs.declared.Call.{Call}
 use Rattle.host_tasks.specs.Tasks.{read-task}
 use Rattle.host_tasks.proofs.Rewriting.{all-read-again, all-stay-so}
 use Rattle.record.specs.declared.State.{State}
-use Rattle.record.specs.declared.Step.{Step}
 use Rattle.record.specs.Meaning.{abs}
 use Rattle.record.specs.Sound.{Sound}
 use Rattle.record.specs.Step.{state-engine}

@@ -1,7 +1,6 @@
 -- What `step` hands back is what it promises: by the judgement and what is done by it; what the definition keeps well-formed is sound.
 use mathlib.Core.Path.{_≡_, refl, sym, ap, _∙_, subst}
-use mathlib.Core.Bool.{not}
-use Prim.Native.Nat.{_<_, _≤_}
+use Prim.Native.Nat.{_<_}
 use native.Mathlib.Omega.{arith}
 use lib.Dec.{T}
 use borrow.Author.Tests.{lt-ltb}
@@ -20,7 +19,6 @@ use Rattle.model.specs.declared.Code.{Code}
 use Rattle.model.specs.declared.Code.the-variants.{Par as E-PAR}
 use Rattle.model.proofs.WellFormed.{kept-well-formed}
 use Rattle.decide.specs.Decisions.{ran, after, Decided}
-use Rattle.decide.specs.Touches.{changed-by}
 use Rattle.decide.specs.declared.Decision.{Decision}
 use Rattle.decide.specs.declared.Decision.the-variants.{Refuse}
 use Rattle.record.specs.declared.State.{State}

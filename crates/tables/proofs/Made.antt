@@ -2,7 +2,7 @@
 use mathlib.Core.Path.{_≡_, refl, sym, ap, _∙_, subst}
 use mathlib.Core.Bool.{Bool, not, cond}
 use mathlib.Core.List.{List, [], _∷_, _++_}
-use Prim.Native.Nat.{ℕ, zero, suc, _+_, _≤_, _<_}
+use Prim.Native.Nat.{ℕ, suc, _+_, _≤_}
 use native.Mathlib.Nat.{zero-add}
 use native.Mathlib.Omega.{arith}
 use native.Mathlib.Decide.{decLt}
@@ -16,7 +16,7 @@ use Rattle.lists.proofs.Tests.{passed-test, passes-test}
 use Rattle.model.specs.Sizes.{call-limit, table-limit}
 use Rattle.model.specs.Rows.{Model}
 use Rattle.model.specs.Engine.{Engine, SteppedAs}
-use Rattle.model.specs.Tables.{in-table, table-outside, NothingDone, AllMade, TableMade}
+use Rattle.model.specs.Tables.{in-table, table-outside, TableMade}
 use Rattle.model.specs.declared.Answer.{Answer}
 use Rattle.model.specs.declared.Call.{Call}
 use Rattle.model.specs.declared.Code.{Code}

@@ -24,9 +24,9 @@
 use mathlib.Core.Path.{_≡_, refl, ap, sym, subst, _∙_}
 use mathlib.Core.Option.{some}
 use mathlib.Core.Bool.{Bool, not}
-use Prim.Native.Nat.{ℕ, zero, suc, _+_, _-_, _*_, _<_, _≤_, _^_, zero-le}
+use Prim.Native.Nat.{ℕ, suc, _+_, _-_, _*_, _<_, _≤_, _^_}
 use native.Mathlib.Omega.{arith}
-use native.Mathlib.Numerals.{add-one, add-one-le, add-one-dec}
+use native.Mathlib.Numerals.{add-one, add-one-dec}
 use mathlib.Core.WellFounded.{WellFounded, InvImage·wf}
 use mathlib.Core.List.{[], _∷_, List}
 use lib.ListN.{length, getD, set, drop as dropN, length-set, drop-of-length-le}
@@ -46,16 +46,15 @@ use prog.Memory.{fieldOf}
 use prog.Wp.{Heap, Out, Env, afterSeq, afterBlock, afterTurn, Calls, Loops, Wp, atReturn, WpFn, Tables}
 use ghost.Atoms.{Atoms}
 use contract.Monad.{fact, factI}
-use types.Kit.{Given, Item, ‵, _⊛_, ⋆, prop, runs, anyQ, atRet, frees, Sq, _$_, _∵_, !, qed, by, move, keep, drop, split, join, rewrite, fsplit, fsplit3, fjoin, fjoin3, feqI, suffices, frame, done}
+use types.Kit.{Given, Item, ‵, _⊛_, ⋆, prop, runs, anyQ, atRet, Sq, _$_, _∵_, !, qed, by, move, keep, drop, split, join, rewrite, fsplit, fsplit3, fjoin, fjoin3, feqI, suffices, frame, done}
 use types.Run.{look, look-raw, init, store, store-raw, forget, stop, hop, fld, from, load, lit, of-opd, bin, and-then, no-more, assigns, assigns-last, land, land-last, first, skips, jumps, blocks, branches, returns, enter, alloc1, alloc0, params1, pass1, pass0, free1, free0, exec, Below, again, loops}
 use types.Part.{whole, sub, look-in}
-use types.SemTy as SemTy
 use sound.WpLaws.{FmC, fmOf, WpFn-mono}
 use borrow.Author.Needs.{scaled-fits}
 use denote.Builtin.{RefMutOf, SliceRefOf, SliceRefMutOf, usize}
 use denote.Plain.{uint-makes}
 use denote.RattleType.{RattleType, owns, flat}
-use denote.Laws.{Is, valss, Tells, Makes, Lawful, shows}
+use denote.Laws.{Is, valss, Makes, Lawful, shows}
 use denote.Memory.{mem}
 use denote.Ref.{RefT, MutRef, ptr-vals, mut-tells, now}
 use denote.Slice.{sliceTy, sliceVal, MutSlice, ShrSlice, heres, Room, at-slice, codedHoleys, slice-vals, mut-slice-tells, shr-slice-tells}
@@ -114,7 +113,7 @@ module _ {M : Type 1} (𝓤 : URA M) (H : Heap 𝓤) (A : Atoms 𝓤) (W : Given
     (stays : (s : S .D) (d : D .D) (j : J .D) → Fit s → Judged s d j → Holds (not (changes j)) → (n : N .D) → Said j n → One s d s n)
     (refused : (h : T .D) (s : S .D) (cs : List (D .D)) (zs : List (N .D)) (v : X .D) → Read h s → Tested s (length cs) (length zs) v → Holds (not (runs-calls v)) → Q h cs zs h zs (code v))
     (made : (h : T .D) (s : S .D) (cs : List (D .D)) (zs : List (N .D)) (v : X .D) → Read h s → Tested s (length cs) (length zs) v → Holds (runs-calls v) → (s′ : S .D) (ys : List (N .D)) → Rest One 0 s cs zs s′ ys → (after : T .D) → Stored h s′ after
-        → Q h cs zs after ys (code v))
+    → Q h cs zs after ys (code v))
     (reads tests judges applies tells says stores : Name) where
   abbrev R-row : RattleType
   R-row = D-row R R-mir R-written R-reaches R-own R-coded

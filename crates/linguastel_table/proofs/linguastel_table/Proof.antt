@@ -100,8 +100,8 @@ linguastel-table-spec 𝓤 H 𝓜 𝓖 𝓡 =
     (λ s d j S w t n e. stays call-of answer-of s d j S w t n e)
     (λ h s cs zs v e tested n. table-refused host-engine call-of answer-of number h s (subst Sound (sym e)) (subst Sound e) cs zs tested n)
     (λ h s cs zs v e tested t s′ ys rest after stored.
-        table-ran host-engine call-of answer-of number h s (subst Sound (sym e)) (subst Sound e) cs zs tested t
-        (record-ran (λ c. in-table (call-of c)) answer-of h e (passed-test (tested .runs-is) t .0) stored (ran rest)))
+    table-ran host-engine call-of answer-of number h s (subst Sound (sym e)) (subst Sound e) cs zs tested t
+    (record-ran (λ c. in-table (call-of c)) answer-of h e (passed-test (tested .runs-is) t .0) stored (ran rest)))
     #state_of #table_test #judge #carry_out #answered #said #restored (tablesOf 𝓤 H 𝓜 𝓣)
     (cited 𝓤 H (tripleOf 𝓤 H A state_of.signature (state_of.spec 𝓤 H A (𝓜 .mem) (𝓡 .run))) 𝓜 𝓡 code.env #state_of state_of-def.routine code.calls-host-record·state-of (state_of-thm.met 𝓤 H 𝓜 𝓖 𝓡))
     (cited 𝓤 H (tripleOf 𝓤 H A table_test.signature (table_test.spec 𝓤 H A (𝓜 .mem) (𝓡 .run))) 𝓜 𝓡 code.env #table_test table_test-def.routine code.calls-host-record·table-test (table_test-thm.met 𝓤 H 𝓜 𝓖 𝓡))

@@ -1,9 +1,7 @@
 -- `enter_table` meets its contract: it is a walk over two lent tables, and its parts make up a table.
 use mathlib.Core.Path.{_≡_, refl, sym, subst}
-use mathlib.Core.List.{List}
 use lib.IntN.{pos}
 use mathlib.Core.Bool.{false}
-use lib.ListN.{length}
 use contract.Running.{givenOf, tables, tablesOf}
 use denote.Struct.Laws as LL
 use denote.Enum.Enum.{layout}
@@ -15,7 +13,6 @@ use Rattle.lists.proofs.Tests.{passed-test}
 use Rattle.thin.proofs.Table.{meets}
 use Rattle.model.specs.Codes.{finished}
 use Rattle.model.specs.Tables.{in-table}
-use Rattle.model.specs.declared.Answer.{Answer}
 use Rattle.model.specs.declared.Call.{Call}
 use Rattle.model.specs.declared.Code.{Code}
 use Rattle.model.specs.declared.Code.the-variants.{Ok as E-OK}
@@ -98,8 +95,8 @@ enter-table-spec 𝓤 H 𝓜 𝓖 𝓡 =
     (λ s d j S w t n e. stays (λ c. c) (λ x. x) s d j S w t n e)
     (λ h s cs zs v e tested n. table-refused state-engine (λ c. c) (λ x. x) (λ code. code) h s (subst Sound (sym e)) (subst Sound e) cs zs tested n)
     (λ h s cs zs v e tested t s′ ys rest after stored.
-        table-ran state-engine (λ c. c) (λ x. x) (λ code. code) h s (subst Sound (sym e)) (subst Sound e) cs zs tested t
-        (subst (λ (u : State). Ran (One (λ c. c) (λ x. x)) 0 u cs zs after ys) e (subst (λ (u : State). Ran (One (λ c. c) (λ x. x)) 0 s cs zs u ys) (sym stored) (ran rest))))
+    table-ran state-engine (λ c. c) (λ x. x) (λ code. code) h s (subst Sound (sym e)) (subst Sound e) cs zs tested t
+    (subst (λ (u : State). Ran (One (λ c. c) (λ x. x)) 0 u cs zs after ys) e (subst (λ (u : State). Ran (One (λ c. c) (λ x. x)) 0 s cs zs u ys) (sym stored) (ran rest))))
     #read #test #judge #carry_out #answered #said #written (tablesOf 𝓤 H 𝓜 𝓣)
     (cited 𝓤 H (tripleOf 𝓤 H A read.signature (read.spec 𝓤 H A (𝓜 .mem) (𝓡 .run))) 𝓜 𝓡 code.env #read read-def.routine code.calls-tables·read (read-thm.met 𝓤 H 𝓜 𝓖 𝓡))
     (cited 𝓤 H (tripleOf 𝓤 H A test.signature (test.spec 𝓤 H A (𝓜 .mem) (𝓡 .run))) 𝓜 𝓡 code.env #test test-def.routine code.calls-tables·test (test-thm.met 𝓤 H 𝓜 𝓖 𝓡))
