@@ -29,13 +29,15 @@ pub struct TableTest {
 pub fn test(state: State, calls: usize, cells: usize) -> TableTest
     ensures { λ r. ⌜ Tested state calls cells (r .code) (r .runs) ⌝ }
 {
-    if !see::sound(state) {
+    let unsound = !see::sound(state);
+    let outside = (TABLE_LIMIT < calls) | (cells < calls);
+    if unsound {
         return TableTest {
             code: Code::Sys,
             runs: false,
         };
     }
-    if (TABLE_LIMIT < calls) | (cells < calls) {
+    if outside {
         return TableTest {
             code: Code::Par,
             runs: false,
