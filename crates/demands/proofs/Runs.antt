@@ -67,7 +67,7 @@ module _ {S : Type 0} {E : Engine S} {s after : S} {c : Call} {answer : Answer} 
 
 -- ── The definition as an engine ──
 
-model-steps : (m : Model) → WellFormed m → (c : Call) → Stepped model-engine m c (step m c .state) (step m c .answer)
+pub model-steps : (m : Model) → WellFormed m → (c : Call) → Stepped model-engine m c (step m c .state) (step m c .answer)
 model-steps m w c = record {
   unknown = λ above.
       let by-row = refusals m c (no-tick (c .number) (omega arith)) .by-row (unknown-refused (view-of m c) c above) in

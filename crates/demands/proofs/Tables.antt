@@ -22,14 +22,16 @@ use Rattle.model.specs.declared.Answer.{Answer}
 use Rattle.model.specs.declared.Call.{Call}
 use Rattle.model.specs.declared.Code.{Code}
 use Rattle.model.specs.declared.Code.the-variants.{Ok as E-OK, Par as E-PAR}
+use Rattle.model.specs.WellFormed.{WellFormed}
+use Rattle.model.proofs.WellFormed.{kept-well-formed}
 use Rattle.model.proofs.Isolation.{placed-at-empty}
 use Rattle.record.specs.Step.{state-engine}
 use Rattle.record.proofs.Equal.{state-lawful}
-use Rattle.demands.specs.Runs.{RunOfTurns, no-turn, one-turn, Interface}
+use Rattle.demands.specs.Runs.{RunOfTurns, no-turn, one-turn, model-engine, Interface}
 use Rattle.demands.specs.Isolated.{Undisturbed, AllUndisturbed}
 use Rattle.demands.specs.Tables.{Tables, TablesFollow, Entry, a-call, a-table, Given, an-answer, a-code, calls-in, given-values, EntrySteps, call-made, table-made}
-use Rattle.demands.specs.Tables.{IsolatedWithTables, IsolatedWithTablesFromEmpty, IsolatedManyWithTables, WithoutTables, ManyWithoutTables, tables-by-value}
-use Rattle.demands.proofs.Runs.{Faithful, by-value-faithful, AsDefined, StepsAsDefined, written, steps-as-defined, calls-as-defined, run-written}
+use Rattle.demands.specs.Tables.{IsolatedWithTables, IsolatedWithTablesFromEmpty, IsolatedManyWithTables, WithoutTables, ManyWithoutTables, tables-by-value, ModelsRunWithTables}
+use Rattle.demands.proofs.Runs.{model-steps, models-run-as, Faithful, by-value-faithful, AsDefined, StepsAsDefined, written, steps-as-defined, calls-as-defined, run-written}
 use Rattle.demands.proofs.Isolated.{merge-map, undisturbed, all-undisturbed}
 
 -- ── A table on a sound record is the definition's ──
@@ -220,3 +222,49 @@ states-isolated-with-tables-from-empty = isolated-with-tables-from-empty state-l
 
 pub states-isolated-many-with-tables : IsolatedManyWithTables (tables-by-value state-engine) state-engine
 states-isolated-many-with-tables = isolated-many-with-tables state-lawful (by-value-faithful state-engine) by-value-tables
+
+-- ── The contract can be met ──
+
+-- A table on a well-formed state of the definition.
+record SomeTable (m : Model) (calls : List Call) (cells : List Answer) : Type 0 where
+  after : Model
+  given : List Answer
+  code : Code
+  made : TableMade model-engine (λ c. c) (λ x. x) (λ code. code) m calls cells after given code
+
+some-table : (m : Model) → WellFormed m → (calls : List Call) (cells : List Answer) → SomeTable m calls cells
+some-table m w calls cells = go (table-outside (length calls) (length cells)) refl
+  where
+    go : (outside : Bool) → table-outside (length calls) (length cells) ≡ outside → SomeTable m calls cells
+    go true e = record {
+      after = m;
+      given = cells;
+      code = E-PAR;
+      made = record {
+        unsound = λ no. absurd (no w);
+        outside = λ sound t. record { code-is = refl; state-is = refl; cells-are = refl };
+        otherwise = λ sound t. absurd (subst (λ b. T (not b)) e t);
+      };
+    }
+    go false e =
+        let r = models-run-as in-table (λ x. x) m w calls in
+        record {
+          after = r .last;
+          given = r .answers ++ drop (length calls) cells;
+          code = E-OK;
+          made = record {
+            unsound = λ no. absurd (no w);
+            outside = λ sound t. absurd (subst T e t);
+            otherwise = λ sound t. record { code-is = refl; answers = r .answers; run = r .run; cells-are = refl };
+          };
+        }
+
+pub models-run-with-tables : ModelsRunWithTables
+models-run-with-tables m w [] = record { last = m; answers = []; run = no-call }
+models-run-with-tables m w (a-call c ∷ entries) =
+    let rest = models-run-with-tables (step m c .state) (kept-well-formed m c w) entries in
+    record { last = rest .last; answers = an-answer (step m c .answer) ∷ rest .answers; run = one-call (call-made (model-steps m w c)) (rest .run) }
+models-run-with-tables m w (a-table calls cells ∷ entries) =
+    let t = some-table m w calls cells in
+    let rest = models-run-with-tables (t .after) (tables-follow model-engine (λ c. c) (λ x. x) (λ code. code) m calls cells _ _ _ (t .made) w .sound) entries in
+    record { last = rest .last; answers = a-code (t .code) (t .given) ∷ rest .answers; run = one-call (table-made (t .made)) (rest .run) }

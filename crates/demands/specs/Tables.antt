@@ -5,15 +5,16 @@ use Prim.Native.Nat.{ℕ}
 use lib.ListN.{length, drop}
 use lib.IntN.{ℤ}
 use Rattle.lists.specs.Lists.{Each}
-use Rattle.model.specs.Rows.{empty-state}
+use Rattle.model.specs.Rows.{Model, empty-state}
 use Rattle.model.specs.Codes.{Values, number}
 use Rattle.model.specs.Engine.{Engine}
+use Rattle.model.specs.WellFormed.{WellFormed}
 use Rattle.model.specs.Tables.{TableMade, table-code, table-step, calls-made}
 use Rattle.model.specs.Isolation.{Placed, CallOf, Carrier, Own, Disjoint, Owners, OwnedBy}
 use Rattle.model.specs.declared.Answer.{Answer}
 use Rattle.model.specs.declared.Call.{Call}
 use Rattle.model.specs.declared.Code.{Code}
-use Rattle.demands.specs.Runs.{Interface, by-value}
+use Rattle.demands.specs.Runs.{SomeRun, model-engine, Interface, by-value}
 use Rattle.demands.specs.Isolated.{Undisturbed, AllUndisturbed, Isolated, IsolatedMany}
 
 -- How tables are made beside single calls: the contract of one table, and what its code is in document 01's numbers.
@@ -105,3 +106,7 @@ module _ {S C A K : Type 0} {F : Interface S C A} (G : Tables F K) where
 -- Tables by value: calls, answers and codes as they are.
 abbrev pub tables-by-value : {S : Type 0} (E : Engine S) → Tables (by-value E) Code
 tables-by-value E = record { number-of = number; Makes = TableMade E (λ c. c) (λ x. x) (λ code. code) }
+
+-- The contract of a table can be met: every list of entries runs from every well-formed state of the definition.
+abbrev pub ModelsRunWithTables : Type 0
+ModelsRunWithTables = (m : Model) → WellFormed m → (entries : List (Entry Call Answer)) → SomeRun (EntrySteps (tables-by-value model-engine)) m entries
