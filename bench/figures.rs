@@ -1,12 +1,14 @@
 //! What bench/figures runs. `figures same CALLS SEED` plays random calls on the proved library and the baseline and compares; `figures check` plays
-//! every cycle on every program and compares the answers with those expected; `figures times` prints nanoseconds; `figures marked` is run under
-//! callgrind, which counts the instructions between its marks; `figures rows` lists the cycles and `figures cycle RECORD ROW PROGRAM ROUNDS` plays
-//! one of them; `figures growth CALLS` plays as many calls on the typical record and prints nanoseconds for a call and the memory used. What is
-//! printed for bench/figures has tabs between its fields. For bench/enter `figures laps RECORD ROW HOW ROUNDS` writes a cycle as the input of the
-//! program laps, and `figures sum RECORD ROW ROUNDS` prints the checksum that this program is to give.
+//! every cycle on every program, and as tables, and compares the answers with those expected; `figures times` prints nanoseconds; `figures marked` is
+//! run under callgrind, which counts the instructions between its marks; `figures rows` lists the cycles and `figures cycle RECORD ROW PROGRAM ROUNDS`
+//! plays one of them; `table` before `times`, `marked` and `rows` is the same for tables of calls. `figures growth CALLS` plays as many calls on the
+//! typical record and prints nanoseconds for a call and the memory used. What is printed for bench/figures has tabs between its fields. For bench/enter
+//! `figures laps RECORD ROW HOW ROUNDS` writes a cycle as the input of the program laps, and `figures sum RECORD ROW ROUNDS` prints the checksum that
+//! this program is to give.
 mod cycles;
 mod programs;
 mod same;
+mod tables;
 
 use cycles::{situations, Cycle, Situation};
 use linguastel::{Answer, Call};
@@ -87,7 +89,7 @@ fn check_all() -> Result<(), String> {
             check::<programs::Second>(&situation, cycle)?;
         }
     }
-    Ok(())
+    tables::check_all()
 }
 
 fn same(calls: u64, seed: u64) -> Result<(), String> {
@@ -229,7 +231,7 @@ fn rows() {
     }
 }
 
-// ROW is the row's place in the table, from 0, or `all` for every row.
+// ROW is the row's place in the table, from 0, or `all` for every row. The program `table` plays the cycle as tables of calls, where it can stand in one.
 fn one_cycle(record: &str, row: &str, program: &str, count: u64) -> Option<()> {
     let situations = situations();
     let situation = situations.iter().find(|situation| situation.name == record)?;
@@ -242,6 +244,7 @@ fn one_cycle(record: &str, row: &str, program: &str, count: u64) -> Option<()> {
             "entry" => rounds(&mut ready::<Entry>(situation, cycle), count),
             "baseline" => rounds(&mut ready::<Baseline>(situation, cycle), count),
             "untested" => rounds(&mut ready::<Untested>(situation, cycle), count),
+            "table" => tables::play(situation, cycle, count)?,
             _ => return None,
         }
     }
@@ -376,6 +379,9 @@ fn run(words: &[&str]) -> Option<Result<(), String>> {
         ["times"] => all_times(),
         ["marked"] => all_marked(),
         ["rows"] => rows(),
+        ["table", "times"] => tables::all_times(),
+        ["table", "marked"] => tables::all_marked(),
+        ["table", "rows"] => tables::rows(),
         ["cycle", record, row, program, count] => one_cycle(record, row, program, count.parse().ok()?)?,
         ["laps", record, row, how, count] => laps(record, row, how.parse().ok()?, count.parse().ok()?)?,
         ["sum", record, row, count] => sum(record, row, count.parse().ok()?)?,
@@ -396,7 +402,7 @@ fn main() {
         }
         None => {
             eprintln!("figures same CALLS SEED, check, times, marked, rows, cycle RECORD ROW PROGRAM ROUNDS, growth CALLS,");
-            eprintln!("laps RECORD ROW HOW ROUNDS, or sum RECORD ROW ROUNDS");
+            eprintln!("table times, table marked, table rows, laps RECORD ROW HOW ROUNDS, or sum RECORD ROW ROUNDS");
             exit(2);
         }
     }

@@ -1,12 +1,14 @@
 //! What bench/limits runs. Every call, accepted in each of its ways and refused, is played on the proved library and on the kernel in Rust: on a typical
-//! record, on a full one, and where the most is to be done. For each it prints the copies that one call makes with memcpy and memmove, and the stack that
-//! it takes. It fails where the library is above a limit, or the two answer differently.
+//! record, on a full one, and where the most is to be done. But for the tick it is played in a table of 64 calls too. For each it prints the copies that
+//! one call makes with memcpy and memmove, and the stack that it takes. It fails where the library is above a limit, where the two answer differently,
+//! and where a table doesn't do what the single call does.
 #[allow(dead_code)]
 mod cycles;
 
 use cycles::*;
 use linguastel::number::*;
 use linguastel::*;
+use std::ffi::c_void;
 use std::fmt::Display;
 use std::hint::black_box;
 use std::process::exit;
@@ -15,10 +17,11 @@ use std::sync::OnceLock;
 // Bytes, for any call.
 const STACK_LIMIT: usize = 9_216;
 const COPIED_LIMIT: usize = 12 * size_of::<Record>();
+// Likewise, in a table of 64 calls: the stack is that of the whole table, the bytes copied are those of one call.
+const TABLE_STACK_LIMIT: usize = 8_192;
+const TABLE_COPIED_LIMIT: usize = 9_728;
 
-// ── One call, measured ──
-
-type Entry = unsafe extern "C" fn(&mut Record, Call) -> Answer;
+// ── What is measured ──
 
 #[repr(C)]
 struct Copied {
@@ -28,32 +31,20 @@ struct Copied {
 
 extern "C" {
     fn linguastel_call(record: &mut Record, call: Call) -> Answer;
+    fn linguastel_table(record: &mut Record, calls: *const Call, call_count: usize, answers: *mut Answer, answer_count: usize) -> i32;
     // Of copies.c and stack.c.
     fn copied_so_far() -> Copied;
-    fn stack_written(play: extern "C" fn(&mut Job), job: &mut Job) -> usize;
+    fn stack_written(play: extern "C" fn(*mut c_void), job: *mut c_void) -> usize;
 }
 
-extern "C" fn rust_call(record: &mut Record, call: Call) -> Answer {
-    baseline::call(record, call)
+// What is played on a stack of its own.
+trait Job {
+    fn play(&mut self);
 }
 
-const NO_ANSWER: Answer = Answer { kind: 2, code: 0, place: 0, a: 0, b: 0, c: 0 };
-
-extern "C" fn does_nothing(_: &mut Record, _: Call) -> Answer {
-    NO_ANSWER
-}
-
-#[repr(C)]
-struct Job {
-    entry: Entry,
-    record: Record,
-    call: Call,
-    answer: Answer,
-}
-
-extern "C" fn play(job: &mut Job) {
-    // SAFETY: an entry takes any record and any call, and writes the record alone.
-    job.answer = unsafe { (job.entry)(&mut job.record, job.call) };
+extern "C" fn play<J: Job>(job: *mut c_void) {
+    // SAFETY: `raw` hands over a job of this type, which nobody else uses meanwhile.
+    unsafe { &mut *job.cast::<J>() }.play();
 }
 
 #[derive(Clone, Copy, Default)]
@@ -72,11 +63,11 @@ impl Figures {
     }
 }
 
-fn raw(job: &mut Job) -> Figures {
+fn raw<J: Job>(job: &mut J) -> Figures {
     // SAFETY: `play` is handed the job, which nobody else uses meanwhile; copies.c hands over two numbers.
     unsafe {
         let before = copied_so_far();
-        let stack = stack_written(play, job);
+        let stack = stack_written(play::<J>, std::ptr::from_mut(job).cast());
         let after = copied_so_far();
         Figures { whole: after.whole - before.whole, copied: after.bytes - before.bytes, stack }
     }
@@ -95,20 +86,124 @@ fn copies_are_counted() -> bool {
     after.whole > before.whole && after.bytes >= before.bytes + length
 }
 
-fn job(entry: Entry, record: &Record, call: Call) -> Job {
-    Job { entry, record: *record, call, answer: NO_ANSWER }
+// The frames that play a job, which aren't the call's. A function that does nothing puts nothing below them but the address to return to.
+fn frames_around(mut does_nothing: impl Job) -> usize {
+    raw(&mut does_nothing).stack - size_of::<usize>()
 }
 
-// The frames that play a call, which aren't the call's. A function that does nothing puts nothing below them but the address to return to.
-fn frames_around() -> usize {
-    static FRAMES: OnceLock<usize> = OnceLock::new();
-    *FRAMES.get_or_init(|| raw(&mut job(does_nothing, &Record::empty(), A_TICK)).stack - size_of::<usize>())
+// ── One call ──
+
+type Entry = unsafe extern "C" fn(&mut Record, Call) -> Answer;
+
+extern "C" fn rust_call(record: &mut Record, call: Call) -> Answer {
+    baseline::call(record, call)
+}
+
+const NO_ANSWER: Answer = Answer { kind: 2, code: 0, place: 0, a: 0, b: 0, c: 0 };
+
+extern "C" fn no_call(_: &mut Record, _: Call) -> Answer {
+    NO_ANSWER
+}
+
+struct Single {
+    entry: Entry,
+    record: Record,
+    call: Call,
+    answer: Answer,
+}
+
+impl Job for Single {
+    fn play(&mut self) {
+        // SAFETY: an entry takes any record and any call, and writes the record alone.
+        self.answer = unsafe { (self.entry)(&mut self.record, self.call) };
+    }
+}
+
+fn single(entry: Entry, record: &Record, call: Call) -> Single {
+    Single { entry, record: *record, call, answer: NO_ANSWER }
 }
 
 fn measured(entry: Entry, record: &Record, call: Call) -> (Figures, Answer, Record) {
-    let mut job = job(entry, record, call);
+    static FRAMES: OnceLock<usize> = OnceLock::new();
+    let frames = FRAMES.get_or_init(|| frames_around(single(no_call, &Record::empty(), A_TICK)));
+    let mut job = single(entry, record, call);
     let figures = raw(&mut job);
-    (Figures { stack: figures.stack - frames_around(), ..figures }, job.answer, job.record)
+    (Figures { stack: figures.stack - frames, ..figures }, job.answer, job.record)
+}
+
+// ── One call in a table ──
+
+type TableEntry = unsafe extern "C" fn(&mut Record, *const Call, usize, *mut Answer, usize) -> i32;
+
+extern "C" fn no_table(_: &mut Record, _: *const Call, _: usize, _: *mut Answer, _: usize) -> i32 {
+    E_OK
+}
+
+struct Table {
+    entry: TableEntry,
+    record: Record,
+    calls: [Call; TABLE],
+    answers: [Answer; TABLE],
+    code: i32,
+}
+
+impl Job for Table {
+    fn play(&mut self) {
+        // SAFETY: both tables are whole and have this length. The function takes any record and any calls, and writes the record and the answers alone.
+        self.code = unsafe { (self.entry)(&mut self.record, self.calls.as_ptr(), TABLE, self.answers.as_mut_ptr(), TABLE) };
+    }
+}
+
+// Refused wherever it stands, so that the record is left as it is for the other calls of a table.
+const UNKNOWN: Call = Call { number: FETCH + 1, ..A_TICK };
+const REFUSED_AS_UNKNOWN: Answer = Answer { kind: 0, code: E_PAR, place: 0, a: 0, b: 0, c: 0 };
+
+// The place of the measured call, with others before it and behind it.
+const MIDDLE: usize = TABLE / 2;
+
+fn table(entry: TableEntry, record: &Record, call: Call) -> Table {
+    let mut calls = [UNKNOWN; TABLE];
+    calls[MIDDLE] = call;
+    Table { entry, record: *record, calls, answers: [NO_ANSWER; TABLE], code: E_OK }
+}
+
+fn measured_table(record: &Record, call: Call) -> (Figures, Table) {
+    static FRAMES: OnceLock<usize> = OnceLock::new();
+    let frames = FRAMES.get_or_init(|| frames_around(table(no_table, &Record::empty(), UNKNOWN)));
+    let mut job = table(linguastel_table, record, call);
+    let figures = raw(&mut job);
+    (Figures { stack: figures.stack - frames, ..figures }, job)
+}
+
+// A record to play on, and what a table takes there that has unknown calls alone.
+struct Ground {
+    record: Record,
+    sound: bool,
+    unknown: Figures,
+}
+
+impl Ground {
+    fn new(record: &Record) -> Ground {
+        Ground { record: *record, sound: record.is_sound(), unknown: measured_table(record, UNKNOWN).0 }
+    }
+
+    // What one call copies: what it adds in the place of an unknown one, and the share of an unknown one in its table. The stack is the whole table's.
+    fn share(&self, table: Figures) -> Figures {
+        let of = |all: usize, unknown: usize| all + unknown.div_ceil(TABLE) - unknown;
+        Figures { whole: of(table.whole, self.unknown.whole), copied: of(table.copied, self.unknown.copied), stack: table.stack }
+    }
+
+    // The call in a table, beside its answer and record when it is made singly; None where they differ. Where the record isn't sound, the table as a
+    // whole is refused and no cell is written.
+    fn in_a_table(&self, call: Call, answer: Answer, after: &Record) -> Option<Figures> {
+        let (figures, table) = measured_table(&self.record, call);
+        let mut answers = [if self.sound { REFUSED_AS_UNKNOWN } else { NO_ANSWER }; TABLE];
+        if self.sound {
+            answers[MIDDLE] = answer;
+        }
+        let code = if self.sound { E_OK } else { E_SYS };
+        (table.code == code && table.answers == answers && table.record == *after).then(|| self.share(figures))
+    }
 }
 
 // ── Lines ──
@@ -117,21 +212,28 @@ struct Line {
     name: String,
     played: usize,
     library: Figures,
+    // In a table; none for a tick, which can't stand in one.
+    table: Option<Figures>,
     rust: Figures,
 }
 
 impl Line {
     fn new(name: String) -> Line {
-        Line { name, played: 0, library: Figures::default(), rust: Figures::default() }
+        Line { name, played: 0, library: Figures::default(), table: None, rust: Figures::default() }
     }
 
     // The line keeps the most of all calls that were played for it.
-    fn play(&mut self, record: &Record, call: Call) -> Result<Answer, String> {
-        let (library, answer, after) = measured(linguastel_call, record, call);
-        let (rust, other, rust_after) = measured(rust_call, record, call);
+    fn play(&mut self, ground: &Ground, call: Call) -> Result<Answer, String> {
+        let (library, answer, after) = measured(linguastel_call, &ground.record, call);
+        let (rust, other, rust_after) = measured(rust_call, &ground.record, call);
         if answer != other || after != rust_after {
             let records = if after == rust_after { "equal" } else { "not equal" };
             return Err(format!("{}: {call:?}: {answer:?}, in Rust {other:?}; the records are {records}", self.name));
+        }
+        if call.number != TICK {
+            let table = ground.in_a_table(call, answer, &after);
+            let table = table.ok_or_else(|| format!("{}: {call:?}: a table doesn't do what the single call does", self.name))?;
+            self.table = Some(self.table.unwrap_or_default().most(table));
         }
         self.played += 1;
         self.library = self.library.most(library);
@@ -140,12 +242,21 @@ impl Line {
     }
 
     fn print(&self) {
-        let Line { name, played, library, rust } = self;
-        print_row(name, [*played, library.whole, library.copied, library.stack, rust.copied, rust.stack]);
+        let Line { name, played, library, table, rust } = self;
+        let table = match table {
+            Some(table) => cells([table.whole, table.copied, table.stack]),
+            None => vec!["-".into(); 3],
+        };
+        let library = cells([*played, library.whole, library.copied, library.stack]);
+        print_row(name, &[library, table, cells([rust.copied, rust.stack])].concat());
     }
 }
 
-fn print_row<T: Display>(name: &str, cells: [T; 6]) {
+fn cells<const N: usize>(numbers: [usize; N]) -> Vec<String> {
+    numbers.map(|number| number.to_string()).into()
+}
+
+fn print_row<T: Display>(name: &str, cells: &[T]) {
     let cells: Vec<String> = cells.iter().map(|cell| format!("{cell:>8}")).collect();
     println!("{name:<56}{}", cells.concat());
 }
@@ -303,16 +414,17 @@ fn calls_of(record: &Record, number: u32) -> Vec<Call> {
 
 // One line for each way of each call, for these records together. A way that no call went is an error.
 fn all_calls(name: &str, records: &[Record]) -> Result<Vec<Line>, String> {
+    let grounds: Vec<Ground> = records.iter().map(Ground::new).collect();
     let mut all = Vec::new();
     for number in TICK..=FETCH + 1 {
         let ways: Vec<&str> = ways(number).iter().copied().chain([REFUSED]).collect();
         let mut lines: Vec<Line> = ways.iter().map(|way| Line::new(format!("{name}: {}, {way}", NAMES[number as usize]))).collect();
-        for record in records {
-            for call in calls_of(record, number) {
-                let mut after = *record;
-                let taken = way(record, call, after.call(call));
+        for ground in &grounds {
+            for call in calls_of(&ground.record, number) {
+                let mut after = ground.record;
+                let taken = way(&ground.record, call, after.call(call));
                 let place = ways.iter().position(|way| *way == taken).ok_or(format!("{name}: {call:?}: '{taken}' is no way of this call"))?;
-                lines[place].play(record, call)?;
+                lines[place].play(ground, call)?;
             }
         }
         all.extend(lines);
@@ -405,7 +517,7 @@ fn messages_queued(count: u32) -> Record {
 
 fn one(name: String, record: Record, call: Call, expected: Expected) -> Result<Line, String> {
     let mut line = Line::new(name);
-    let answer = line.play(&record, call)?;
+    let answer = line.play(&Ground::new(&record), call)?;
     if expected.is(answer) {
         Ok(line)
     } else {
@@ -439,16 +551,41 @@ fn all_lines() -> Result<Vec<Line>, String> {
     Ok(lines)
 }
 
-// The largest of all lines, with the first line that has it.
-fn print_most(what: &str, lines: &[Line], limit: Option<usize>, of: impl Fn(&Line) -> usize) {
-    let most = lines.iter().rev().max_by_key(|line| of(line)).expect("a line");
-    let limit = limit.map_or(String::new(), |limit| format!(", limit {limit}"));
-    println!("the most {what}: {}{limit} ({})", of(most), most.name);
+// What is told of all lines together. Where there is a limit, no line may be above it.
+struct Most {
+    what: &'static str,
+    limit: Option<usize>,
+    of: fn(&Line) -> usize,
 }
 
-fn above<'a>(lines: &'a [Line], what: &'a str, limit: usize, of: fn(&Line) -> usize) -> impl Iterator<Item = String> + 'a {
-    let over = lines.iter().filter(move |line| of(line) > limit);
-    over.map(move |line| format!("{}: {} {what}, above {limit}", line.name, of(line)))
+fn in_table(line: &Line) -> Figures {
+    line.table.unwrap_or_default()
+}
+
+const ALL_MOST: [Most; 8] = [
+    Most { what: "whole copies", limit: None, of: |line| line.library.whole },
+    Most { what: "bytes copied", limit: Some(COPIED_LIMIT), of: |line| line.library.copied },
+    Most { what: "bytes of stack", limit: Some(STACK_LIMIT), of: |line| line.library.stack },
+    Most { what: "whole copies in a table of 64, for one call", limit: None, of: |line| in_table(line).whole },
+    Most { what: "bytes copied in a table of 64, for one call", limit: Some(TABLE_COPIED_LIMIT), of: |line| in_table(line).copied },
+    Most { what: "bytes of stack of a table of 64", limit: Some(TABLE_STACK_LIMIT), of: |line| in_table(line).stack },
+    Most { what: "bytes copied in Rust", limit: None, of: |line| line.rust.copied },
+    Most { what: "bytes of stack in Rust", limit: None, of: |line| line.rust.stack },
+];
+
+impl Most {
+    // The largest of all lines, with the first line that has it.
+    fn print(&self, lines: &[Line]) {
+        let most = lines.iter().rev().max_by_key(|line| (self.of)(line)).expect("a line");
+        let limit = self.limit.map_or(String::new(), |limit| format!(", limit {limit}"));
+        println!("the most {}: {}{limit} ({})", self.what, (self.of)(most), most.name);
+    }
+
+    fn above(&self, lines: &[Line]) -> Vec<String> {
+        let limit = self.limit.unwrap_or(usize::MAX);
+        let over = lines.iter().filter(|line| (self.of)(line) > limit);
+        over.map(|line| format!("{}: {} {}, above {limit}", line.name, (self.of)(line), self.what)).collect()
+    }
 }
 
 fn run() -> Result<(), String> {
@@ -456,17 +593,11 @@ fn run() -> Result<(), String> {
         return Err("copies aren't counted: bench/copies.c is not what was linked".into());
     }
     let lines = all_lines()?;
-    print_row("", ["", "whole", "bytes", "", "Rust:", ""]);
-    print_row("the most of all calls that were played", ["calls", "copies", "copied", "stack", "copied", "stack"]);
+    print_row("", &["", "whole", "bytes", "", "table:", "", "", "Rust:", ""]);
+    print_row("the most of all calls that were played", &["calls", "copies", "copied", "stack", "copies", "copied", "stack", "copied", "stack"]);
     lines.iter().for_each(Line::print);
-    print_most("whole copies", &lines, None, |line| line.library.whole);
-    print_most("bytes copied", &lines, Some(COPIED_LIMIT), |line| line.library.copied);
-    print_most("bytes of stack", &lines, Some(STACK_LIMIT), |line| line.library.stack);
-    print_most("bytes copied in Rust", &lines, None, |line| line.rust.copied);
-    print_most("bytes of stack in Rust", &lines, None, |line| line.rust.stack);
-    let copied = above(&lines, "bytes copied", COPIED_LIMIT, |line| line.library.copied);
-    let stack = above(&lines, "bytes of stack", STACK_LIMIT, |line| line.library.stack);
-    let faults: Vec<String> = copied.chain(stack).collect();
+    ALL_MOST.iter().for_each(|most| most.print(&lines));
+    let faults: Vec<String> = ALL_MOST.iter().flat_map(|most| most.above(&lines)).collect();
     if faults.is_empty() {
         Ok(())
     } else {
