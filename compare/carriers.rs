@@ -1,26 +1,120 @@
-//! Demand 3 on the kernel: two carriers with tasks, data queues, mailboxes and messages of their own, each with a list of calls. In every merge of
-//! the lists each call answers as when its list runs alone, and all merges end in equal states.
+//! Demand 3 on the kernel: two carriers with tasks, data queues, mailboxes and messages of their own, each with a list of calls and tables. In every
+//! merge of the lists each call and each cell of a table answers as when its list runs alone, and all merges end in equal states. A table that is
+//! taken counts as its calls in a row, one that is refused as no call: one merge has them so.
 use crate::play::words_of;
-use crate::record::{answer_in_words, kernel_call, record_of, state_of};
-use linguastel::{number, Record, MAILBOXES, MESSAGES, QUEUES, TASKS};
-use second::{random_call, Call, Own, Profile, Random, State, Wait};
+use crate::record::{answer_in_words, kernel_answer, kernel_call, record_of, state_of};
+use crate::tables::post_on_kernel;
+use linguastel::{number, Record, E_OK, MAILBOXES, MESSAGES, QUEUES, TASKS};
+use second::{code_name, random_call, random_table, Call, Own, Profile, Random, State, Table, Wait};
+
+/// So many of a hundred entries of a list are tables.
+const TABLES: u32 = 2;
 
 #[derive(Default)]
 pub struct Counts {
     pub pairs: u64,
     pub merges: u64,
-    /// Calls in merges.
+    /// Calls in merges, those of tables too.
     pub calls: u64,
     /// Those with a code but E_OK, fetch left out: its code may be that of an ended wait.
     pub refused: u64,
     pub waits: u64,
+    /// Tables in merges.
+    pub tables: u64,
+    pub refused_tables: u64,
+    pub calls_in_tables: u64,
 }
 
-/// A call of a list, with the answer that it got alone.
+impl Counts {
+    fn count(&mut self, entry: &Entry, answers: &Answers) {
+        let is_table = matches!(entry, Entry::Table(_));
+        self.tables += u64::from(is_table);
+        if !answers.taken() {
+            self.refused_tables += 1;
+            return;
+        }
+        for (call, answer) in entry.calls().iter().zip(&answers.cells) {
+            self.calls += 1;
+            self.calls_in_tables += u64::from(is_table);
+            self.waits += u64::from(answer.waits());
+            self.refused += u64::from(answer.code != 0 && call.number != number::FETCH);
+        }
+    }
+}
+
+// ── Entries of a list ──
+
+#[derive(Clone)]
+enum Entry {
+    Call(Call),
+    /// With the cells as they are lent.
+    Table(Table),
+}
+
+/// What an entry gets: a table its code and cells, a call one cell.
+#[derive(Clone, PartialEq)]
+struct Answers {
+    /// None for a call.
+    code: Option<i32>,
+    cells: Vec<linguastel::Answer>,
+}
+
+impl Entry {
+    fn calls(&self) -> &[Call] {
+        match self {
+            Entry::Call(call) => std::slice::from_ref(call),
+            Entry::Table(table) => &table.calls,
+        }
+    }
+
+    fn play(&self, record: &mut Record) -> Answers {
+        match self {
+            Entry::Call(call) => Answers::of_call(record.call(kernel_call(call))),
+            Entry::Table(table) => {
+                let marks: Vec<linguastel::Answer> = table.answers.iter().map(kernel_answer).collect();
+                let (code, cells) = post_on_kernel(record, &table.calls, &marks);
+                Answers { code: Some(code), cells }
+            }
+        }
+    }
+
+    fn in_words(&self) -> String {
+        match self {
+            Entry::Call(call) => call.to_string(),
+            Entry::Table(table) => format!("a table\n{}", table.to_string().trim_end()),
+        }
+    }
+}
+
+impl Answers {
+    fn of_call(answer: linguastel::Answer) -> Answers {
+        Answers { code: None, cells: vec![answer] }
+    }
+
+    /// Whether the entry's calls were made.
+    fn taken(&self) -> bool {
+        self.code.is_none_or(|code| code == E_OK)
+    }
+
+    fn in_words(&self) -> String {
+        let cells = || (1..).zip(&self.cells).map(|(place, cell)| format!("\ncell {place}: {}", answer_in_words(cell)));
+        self.code.map_or_else(|| answer_in_words(&self.cells[0]), |code| code_name(code) + &cells().collect::<String>())
+    }
+
+    /// Where these aren't the same as others.
+    fn difference(&self, other: &Answers) -> String {
+        match (0..self.cells.len()).find(|&place| self.cells[place] != other.cells[place]) {
+            Some(place) if self.code == other.code => format!("answer {} differs", place + 1),
+            _ => "the codes differ".to_string(),
+        }
+    }
+}
+
+/// An entry with what it got alone.
 #[derive(Clone)]
 struct Answered {
-    call: Call,
-    answer: linguastel::Answer,
+    entry: Entry,
+    answers: Answers,
 }
 
 // ── Who owns what ──
@@ -92,7 +186,7 @@ fn is_placed(state: &State, own: &Own) -> bool {
     tasks && own.messages.iter().all(|&message| mailbox_with(state, message).is_none_or(in_own))
 }
 
-// ── A list of calls ──
+// ── A list ──
 
 /// Whether every valid number that the call names is the carrier's own. A call of unknown number names its caller alone.
 fn names_only(own: &Own, call: &Call) -> bool {
@@ -107,32 +201,50 @@ fn names_only(own: &Own, call: &Call) -> bool {
     message && object && is_own(call.caller, TASKS, &own.tasks)
 }
 
-/// A list of calls, no ticks, that a carrier makes from this record on, with the answers that they get.
+/// A list of calls and tables, no ticks, that a carrier makes from this record on, with what they get.
 fn random_list(start: &Record, own: &Own, random: &mut Random) -> Result<Vec<Answered>, String> {
     let profile = Profile::restricted(random.pick(&second::KINDS), own.clone());
     let mut record = *start;
     let mut list = Vec::new();
     for _ in 0..10 + random.below(60) {
-        let state = state_of(&record).ok_or("no state can be read after a call of a carrier")?;
-        let call = random_call(random, &profile, &state);
-        if call.number == number::TICK || !names_only(own, &call) {
-            return Err(format!("a carrier's list has a call that isn't its own: {call}"));
+        let state = state_of(&record).ok_or("no state can be read after an entry of a carrier")?;
+        let entry = random_entry(&profile, &state, random);
+        if matches!(entry, Entry::Call(call) if call.number == number::TICK) || !entry.calls().iter().all(|call| names_only(own, call)) {
+            return Err(format!("a carrier's list has an entry that isn't its own: {}", entry.in_words()));
         }
-        let answer = record.call(kernel_call(&call));
-        list.push(Answered { call, answer });
+        let answers = entry.play(&mut record);
+        list.push(Answered { entry, answers });
     }
     Ok(list)
 }
 
+fn random_entry(profile: &Profile, state: &State, random: &mut Random) -> Entry {
+    if random.percent(TABLES) {
+        return Entry::Table(random_table(random, profile, state));
+    }
+    Entry::Call(random_call(random, profile, state))
+}
+
+/// The list with single calls for its tables: none for one that is refused, and none for number 0, which is no tick in a table.
+fn singly(list: &[Answered]) -> Vec<Answered> {
+    let mut calls = Vec::new();
+    for Answered { entry, answers } in list.iter().filter(|answered| answered.answers.taken()) {
+        for (call, answer) in entry.calls().iter().zip(&answers.cells).filter(|(call, _)| call.number != number::TICK) {
+            calls.push(Answered { entry: Entry::Call(*call), answers: Answers::of_call(*answer) });
+        }
+    }
+    calls
+}
+
 // ── Merges ──
 
-/// Whose call stands at each position. The first two merges are one list behind the other.
+/// Whose entry stands at each position. The first two merges are one list behind the other.
 fn random_turns(merge: usize, lengths: [usize; 2], random: &mut Random) -> Vec<Owner> {
     let mut left = lengths;
     let mut turns = Vec::new();
     let bias = 1 + random.below(9);
     while left != [0, 0] {
-        let wanted = if merge < 2 { merge } else { usize::from(random.below(10) < bias) };
+        let wanted = if merge <= 2 { merge - 1 } else { usize::from(random.below(10) < bias) };
         let turn = if left[wanted] > 0 { wanted } else { 1 - wanted };
         left[turn] -= 1;
         turns.push(turn);
@@ -144,16 +256,15 @@ fn play_merge(start: &Record, lists: &[Vec<Answered>; 2], turns: &[Owner], count
     let mut record = *start;
     let mut next = [0, 0];
     for (position, &turn) in turns.iter().enumerate() {
-        let Answered { call, answer: alone } = &lists[turn][next[turn]];
+        let Answered { entry, answers: alone } = &lists[turn][next[turn]];
         next[turn] += 1;
-        let answer = record.call(kernel_call(call));
-        counts.calls += 1;
-        counts.waits += u64::from(answer.waits());
-        counts.refused += u64::from(answer.code != 0 && call.number != number::FETCH);
-        if answer != *alone {
-            let place = format!("call {} of the merge, call {} of carrier {}: {call}", position + 1, next[turn], turn + 1);
-            let answers = format!("in the merge: {}\nalone: {}", answer_in_words(&answer), answer_in_words(alone));
-            return Err(format!("{place}\n{answers}\n{}", merge_in_words(start, lists, &turns[..=position])));
+        let answers = entry.play(&mut record);
+        counts.count(entry, &answers);
+        if answers != *alone {
+            let place = format!("entry {} of the merge, entry {} of carrier {}", position + 1, next[turn], turn + 1);
+            let what = format!("{}\n{}", answers.difference(alone), entry.in_words());
+            let answers = format!("in the merge: {}\nalone: {}", answers.in_words(), alone.in_words());
+            return Err(format!("{place}: {what}\n{answers}\n{}", merge_in_words(start, lists, &turns[..=position])));
         }
     }
     Ok(record)
@@ -163,14 +274,17 @@ fn merge_in_words(start: &Record, lists: &[Vec<Answered>; 2], turns: &[Owner]) -
     let mut text = format!("── the state at the start ──\n{}\n── the merge ──\n", words_of(start));
     let mut next = [0, 0];
     for &turn in turns {
-        let Answered { call, answer } = &lists[turn][next[turn]];
+        let Answered { entry, answers } = &lists[turn][next[turn]];
         next[turn] += 1;
-        text += &format!("carrier {}: {call}; alone: {}\n", turn + 1, answer_in_words(answer));
+        text += &format!("carrier {}: {}\nalone: {}\n", turn + 1, entry.in_words(), answers.in_words());
     }
     text
 }
 
-/// Two carriers with a list of calls each from this state, and some merges of the lists.
+/// How many merges there are of two lists. The last one has single calls for tables.
+const MERGES: usize = 5;
+
+/// Two carriers with a list each from this state, and some merges of the lists.
 pub fn compare_merges(state: &State, random: &mut Random, counts: &mut Counts) -> Result<(), String> {
     let carriers = two_carriers(state, random);
     if !carriers.iter().all(|own| is_placed(state, own)) {
@@ -178,18 +292,66 @@ pub fn compare_merges(state: &State, random: &mut Random, counts: &mut Counts) -
     }
     let start = &record_of(state, random);
     let lists = [random_list(start, &carriers[0], random)?, random_list(start, &carriers[1], random)?];
+    let calls = [singly(&lists[0]), singly(&lists[1])];
     counts.pairs += 1;
     let mut first_end: Option<State> = None;
-    for merge in 0..5 {
+    for merge in 1..=MERGES {
+        let lists = if merge == MERGES { &calls } else { &lists };
         let turns = random_turns(merge, [lists[0].len(), lists[1].len()], random);
         counts.merges += 1;
-        let record = play_merge(start, &lists, &turns, counts)?;
+        let record = play_merge(start, lists, &turns, counts)?;
         let end = state_of(&record).ok_or("no state can be read at the end of a merge")?;
         let first = first_end.get_or_insert_with(|| end.clone());
         if !first.equal(&end) {
             let ends = format!("── the first merge ends in ──\n{first}\n── this one in ──\n{end}");
-            return Err(format!("two merges end in different states\n{ends}\n{}", merge_in_words(start, &lists, &turns)));
+            return Err(format!("two merges end in different states\n{ends}\n{}", merge_in_words(start, lists, &turns)));
         }
     }
     Ok(())
+}
+
+#[cfg(test)]
+mod tests {
+    use super::*;
+    use second::{random_marks, Answer};
+
+    /// A list of three entries from the empty record: a call, a table that is taken and one that is refused.
+    fn example() -> Vec<Answered> {
+        let define = |object| Call { number: number::DEFINE_TASK, object, value: 5, ..Call::default() };
+        let table = |cells| Table { calls: vec![define(2), Call::default(), define(2)], answers: random_marks(&mut Random::new(1), cells) };
+        let mut record = Record::empty();
+        let entries = [Entry::Call(define(1)), Entry::Table(table(4)), Entry::Table(table(2))];
+        entries.into_iter().map(|entry| Answered { answers: entry.play(&mut record), entry }).collect()
+    }
+
+    /// The number 0 and the refused table are no calls.
+    #[test]
+    fn tables_as_single_calls() {
+        let calls = singly(&example());
+        let answers: Vec<linguastel::Answer> = calls.iter().flat_map(|answered| answered.answers.cells.clone()).collect();
+        let codes = [0, 0, linguastel::E_OBJ].map(Answer::refused);
+        assert_eq!(answers, codes.map(|answer| kernel_answer(&answer)));
+        assert!(play_merge(&Record::empty(), &[calls, Vec::new()], &[0, 0, 0], &mut Counts::default()).is_ok());
+    }
+
+    /// A merge in which a cell or the code of a table isn't what it was alone.
+    #[test]
+    fn other_answers_are_found() {
+        let start = &Record::empty();
+        let mut counts = Counts::default();
+        assert!(play_merge(start, &[example(), Vec::new()], &[0, 0, 0], &mut counts).is_ok());
+        assert_eq!((counts.calls, counts.calls_in_tables, counts.tables, counts.refused_tables), (4, 3, 2, 1));
+        let changes: [(&str, fn(&mut Answers)); 3] = [
+            ("the codes differ", |answers| answers.code = Some(linguastel::E_PAR)),
+            ("answer 2 differs", |answers| answers.cells[1].a += 1),
+            ("answer 4 differs", |answers| answers.cells[3].c += 1),
+        ];
+        for (what, change) in changes {
+            let mut list = example();
+            change(&mut list[1].answers);
+            let text = play_merge(start, &[Vec::new(), list], &[1, 1, 1], &mut counts).expect_err("a difference");
+            assert!(text.starts_with(&format!("entry 2 of the merge, entry 2 of carrier 2: {what}\na table\ncall 1: handler calls define task")));
+            assert!(text.contains("\nin the merge: E_OK\ncell 1: E_OK, words 0 0 0\ncell 2: E_PAR, words 0 0 0\n"));
+        }
+    }
 }

@@ -8,6 +8,7 @@ pub mod limits;
 pub mod play;
 pub mod record;
 pub mod runs;
+pub mod tables;
 pub mod unsound;
 
 /// Runs a program with its arguments. Its exit status is 0 where all is the same, 1 where something differs, 2 where it was called wrongly.

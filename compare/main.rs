@@ -1,5 +1,5 @@
 //! Compares the kernel with the second program. README.md beside this file says what is compared and how a difference is repeated.
-//! `compare short` plays 1,000,000 calls, `compare long [CALLS] [SEED]` 100,000,000 or as many as said; both with damaged records and merges.
+//! `compare short` plays 1,000,000 calls, `compare long [CALLS] [SEED]` 100,000,000 or as many as said; both with tables, damaged records and merges.
 //! `compare records [COUNT] [SEED]` and `compare carriers [COUNT] [SEED]` play those alone, `compare run KIND SEED` repeats one run.
 //! `compare mutant` stops at the first difference within 100,000 calls and prints one line. The exit status is 1 where something differs.
 #![forbid(unsafe_code)]
@@ -11,7 +11,7 @@ use std::time::{Duration, Instant};
 /// What is played over and over: kinds of run, and how many of each.
 type Round = &'static [(Kind, u64)];
 
-/// Has 2,000 compared calls, 220 damaged records and 20 merges.
+/// Has 2,000 compared calls, about 20 tables beside them, 260 damaged records and 20 merges.
 const ALL_KINDS: Round = &[(Kind::Empty, 1), (Kind::Wrap, 1), (Kind::States, 5), (Kind::Records, 20), (Kind::Carriers, 4)];
 const RECORDS: Round = &[(Kind::Records, 20)];
 const CARRIERS: Round = &[(Kind::Carriers, 20)];
@@ -74,7 +74,7 @@ impl Session {
     fn progress(&self) -> String {
         let totals = &self.totals;
         let rate = totals.all_calls() as f64 / self.started.elapsed().as_secs_f64();
-        let others = format!("{} damaged records, {} merges", totals.records.records(), totals.carriers.merges);
+        let others = format!("{} tables, {} damaged records, {} merges", totals.all_tables(), totals.records.records(), totals.carriers.merges);
         format!("{} calls compared, {others}, 0 differences, {rate:.0} calls a second", totals.compared())
     }
 }
@@ -98,7 +98,7 @@ fn compare(mut session: Session, whole: bool, done: impl Fn(&Totals) -> bool) ->
         print!("{found}");
     }
     let result = format!("{} differences, {} never reached", u32::from(found.is_some()), missing.len());
-    println!("{result}; {} calls of all kinds in {seconds:.1} s", totals.all_calls());
+    println!("{result}; {} calls and {} tables of all kinds in {seconds:.1} s", totals.all_calls(), totals.all_tables());
     found.is_none() && missing.is_empty()
 }
 

@@ -45,16 +45,21 @@ impl Pair {
     }
 
     fn in_words(&self, what: &str, call: &Call, before: &Record, kernel: &linguastel::Answer, second: &Answer) -> String {
-        let (start, left, second_left) = (words_of(before), words_of(&self.record), self.state.to_string());
         let answers = format!("the kernel answers: {}\nthe second program answers: {second}", answer_in_words(kernel));
+        format!("{what}\ncall: {call}\n{answers}\n{}", self.states_in_words(before))
+    }
+
+    /// The states of both after a call or table, and before it.
+    pub fn states_in_words(&self, before: &Record) -> String {
+        let (start, left, second_left) = (words_of(before), words_of(&self.record), self.state.to_string());
         let lines = lines_apart(&left, &second_left);
         let states = format!("── the kernel's state after it ──\n{left}\n── the second program's state after it ──\n{second_left}");
-        format!("{what}\ncall: {call}\n{answers}\n{lines}── the state before the call, of both ──\n{start}\n{states}")
+        format!("{lines}── the state before, of both ──\n{start}\n{states}")
     }
 }
 
 /// Whether a call with this answer changes no byte of the record.
-fn leaves_the_record(call: &Call, answer: &linguastel::Answer) -> bool {
+pub fn leaves_the_record(call: &Call, answer: &linguastel::Answer) -> bool {
     let reads = matches!(call.number, number::REF_DTQ | number::REF_MBX | number::LOOK | number::FETCH);
     reads || !matches!(answer.outcome(), Outcome::Finished(E_OK) | Outcome::Waits(_))
 }

@@ -4,6 +4,7 @@ use crate::damage::{Damage, DAMAGES};
 use crate::limits::next_call;
 use crate::play::Pair;
 use crate::record::{random_word, record_of};
+use crate::tables::{self, compare_table};
 use crate::unsound::{self, compare_damaged};
 use linguastel::Record;
 use second::{random_sound_state, Profile, Random, Reached, State};
@@ -25,6 +26,9 @@ pub enum Kind {
 /// In how many ways the second program finds a state not sound, but for lists that are too long and numbers in them that are out of range: from such
 /// a record no state is read.
 const FAULTS: usize = 22;
+
+/// So many of a hundred calls of a run have a table before them.
+const TABLES: u32 = 1;
 
 pub const KINDS: [Kind; 5] = [Kind::Empty, Kind::Wrap, Kind::States, Kind::Records, Kind::Carriers];
 
@@ -71,6 +75,12 @@ fn random_profile(kind: Kind, random: &mut Random) -> Profile {
     Profile::new(chosen, random)
 }
 
+fn summary_of_tables(what: &str, counts: &tables::Counts) -> String {
+    let (tables, lengths) = (counts.lengths.tables(), counts.lengths.in_words());
+    let others = format!("{} refused, {} whose calls change nothing", counts.refused, counts.idle);
+    format!("{tables:>12}  {what}: {} calls, {lengths}; {others}\n", counts.calls)
+}
+
 /// What was compared.
 #[derive(Default)]
 pub struct Totals {
@@ -78,20 +88,29 @@ pub struct Totals {
     pub runs: [u64; KINDS.len()],
     /// Calls whose answer and state were compared with the second program's, by kind of run.
     pub calls: [u64; KINDS.len()],
+    /// Tables in the same runs.
+    pub tables: tables::Counts,
     pub records: unsound::Counts,
     pub carriers: carriers::Counts,
     pub reached: Reached,
 }
 
 impl Totals {
-    /// Calls compared with the second program in runs of calls.
+    /// Calls compared with the second program in runs of calls, without those of tables.
     pub fn compared(&self) -> u64 {
         self.calls.iter().sum()
     }
 
-    /// Those and the calls on damaged records and in merges.
+    /// Those and the calls of tables, on damaged records and in merges.
     pub fn all_calls(&self) -> u64 {
-        self.compared() + self.records.refused + self.records.played + self.carriers.calls
+        let in_tables = self.tables.calls + self.records.tables.calls;
+        self.compared() + in_tables + self.records.refused + self.records.played + self.carriers.calls
+    }
+
+    /// Tables of all kinds, in merges too.
+    pub fn all_tables(&self) -> u64 {
+        let compared = self.tables.lengths.tables() + self.records.tables.lengths.tables();
+        compared + self.records.refused_tables.tables() + self.carriers.tables
     }
 
     /// What was never reached: rows and paths of the second program, and damages that came to no record of one of the two kinds.
@@ -106,6 +125,8 @@ impl Totals {
                 missing.push(format!("a record that is still sound, by damage {kind:?}"));
             }
         }
+        missing.extend(self.tables.lengths.missing().into_iter().map(|what| what + " in a run of calls"));
+        missing.extend(self.records.refused_tables.missing().into_iter().map(|what| what + " on a record that isn't sound"));
         if self.records.faults.len() < FAULTS {
             missing.push(format!("{} of {FAULTS} reasons why a state isn't sound", FAULTS - self.records.faults.len()));
         }
@@ -147,6 +168,10 @@ impl Totals {
             if random.percent(4) {
                 pair.record = record_of(&pair.state, random);
             }
+            if random.percent(TABLES) {
+                compare_table(&mut pair, &profile, random, &mut self.reached, &mut self.tables)
+                    .map_err(|text| format!("table before call {number} of the run: {text}"))?;
+            }
             let call = next_call(random, &profile, &pair.state);
             self.calls[kind as usize] += 1;
             pair.play(&call, &mut self.reached).map_err(|text| format!("call {number} of the run: {text}"))?;
@@ -165,9 +190,12 @@ impl Totals {
         for kind in [Kind::Empty, Kind::Wrap, Kind::States] {
             text += &format!("{:>12}  calls compared, in {} runs of kind {}\n", self.calls[kind as usize], self.runs[kind as usize], kind.name());
         }
+        text += &summary_of_tables("tables compared in these runs", &self.tables);
         let carriers = &self.carriers;
         text += &format!("{:>12}  calls in {} merges of {} pairs of lists", carriers.calls, carriers.merges, carriers.pairs);
         text += &format!(", of which {} refused and {} wait\n", carriers.refused, carriers.waits);
+        text += &format!("{:>12}  tables in these merges: {} refused", carriers.tables, carriers.refused_tables);
+        text += &format!(", the others with {} of the calls\n", carriers.calls_in_tables);
         text + &self.summary_of_records()
     }
 
@@ -175,6 +203,9 @@ impl Totals {
         let records = &self.records;
         let mut text = format!("{:>12}  damaged records; {} calls on those that aren't sound", records.records(), records.refused);
         text += &format!(", {} compared on those that still are\n", records.played);
+        let refused = &records.refused_tables;
+        text += &format!("{:>12}  tables on those that aren't sound: {}\n", refused.tables(), refused.in_words());
+        text += &summary_of_tables("tables compared on those that still are", &records.tables);
         for (kind, judged) in DAMAGES.iter().zip(&records.judged) {
             let name = format!("{kind:?}");
             let counts = format!("unreadable {:>7}  not sound {:>7}  sound {:>7}", judged.unreadable, judged.unsound, judged.sound);

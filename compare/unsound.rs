@@ -1,11 +1,13 @@
 //! Records of any kind. The second program judges what was read from one; the kernel's own test must agree. Where the record isn't sound, every
-//! call of known number gets E_SYS and every other one E_PAR, with zero words, and no byte changes. Where it is sound, calls are compared as usual.
+//! call of known number gets E_SYS and every other one E_PAR, with zero words, every table gets E_SYS, and no byte changes. Where it is sound, calls
+//! and tables are compared as usual.
 use crate::damage::{damage, DAMAGES};
 use crate::limits::next_call;
 use crate::play::{first_change, Pair};
 use crate::record::{answer_in_words, kernel_call, record_of, state_of};
+use crate::tables::{self, cells_for_kernel, compare_table, post_on_kernel, Lengths, LONGEST};
 use linguastel::{Record, E_PAR, E_SYS};
-use second::{Answer, Call, Profile, Random, Reached, State};
+use second::{code_name, random_marks, Answer, Call, Profile, Random, Reached, State, Table};
 use std::collections::BTreeMap;
 
 /// How many records there were, by the kind of damage.
@@ -18,6 +20,9 @@ pub struct Judged {
     pub unreadable: u64,
 }
 
+/// So many of a hundred records that are still sound get a table too.
+const TABLES: u32 = 4;
+
 #[derive(Default)]
 pub struct Counts {
     pub judged: [Judged; DAMAGES.len()],
@@ -25,8 +30,12 @@ pub struct Counts {
     pub faults: BTreeMap<String, u64>,
     /// Calls on records that aren't sound.
     pub refused: u64,
+    /// Tables on those.
+    pub refused_tables: Lengths,
     /// Calls on those that were sound after all.
     pub played: u64,
+    /// Tables on those.
+    pub tables: tables::Counts,
 }
 
 impl Counts {
@@ -69,23 +78,36 @@ fn compare_judgement(record: &Record, way: usize, random: &mut Random, counts: &
     }
     match read {
         Some(state) if sound => play_some(Pair { record: *record, state }, random, counts, reached),
-        Some(state) => {
-            second_refuses(state, random, reached)?;
-            refuse_all(record, random, counts)
+        read => {
+            if let Some(state) = &read {
+                second_refuses(state, random, reached)?;
+            }
+            refuse_all(record, read.as_ref(), random, counts, reached)
         }
-        None => refuse_all(record, random, counts),
     }
 }
 
 /// The second program too refuses a call on a state that isn't sound, and leaves it.
-fn second_refuses(state: State, random: &mut Random, reached: &mut Reached) -> Result<(), String> {
+fn second_refuses(state: &State, random: &mut Random, reached: &mut Reached) -> Result<(), String> {
     let call = Call { number: random.below(24), ..Call::default() };
     let mut left = state.clone();
     let answer = left.play(&call, reached);
-    if answer == Answer::refused(E_SYS) && left == state {
+    if answer == Answer::refused(E_SYS) && left == *state {
         return Ok(());
     }
     Err(format!("call: {call}\nthe second program answers: {answer}\n── the state, which isn't sound ──\n{state}\n── and after it ──\n{left}"))
+}
+
+/// Likewise a table.
+fn second_refuses_table(state: &State, table: &Table, reached: &mut Reached) -> Result<(), String> {
+    let (mut left, mut cells) = (state.clone(), table.answers.clone());
+    let code = second::post(&mut left, &table.calls, &mut cells, reached);
+    if code == E_SYS && cells == table.answers && left == *state {
+        return Ok(());
+    }
+    let after = Table { calls: Vec::new(), answers: cells };
+    let words = format!("the second program's code for a table: {}\n{table}── its cells after it ──\n{after}", code_name(code));
+    Err(format!("{words}── the state, which isn't sound ──\n{state}\n── and after it ──\n{left}"))
 }
 
 fn play_some(mut pair: Pair, random: &mut Random, counts: &mut Counts, reached: &mut Reached) -> Result<(), String> {
@@ -95,6 +117,9 @@ fn play_some(mut pair: Pair, random: &mut Random, counts: &mut Counts, reached: 
         counts.played += 1;
         pair.play(&call, reached)?;
     }
+    if random.percent(TABLES) {
+        compare_table(&mut pair, &profile, random, reached, &mut counts.tables)?;
+    }
     Ok(())
 }
 
@@ -102,7 +127,8 @@ fn any_profile(random: &mut Random) -> Profile {
     Profile::new(random.pick(&second::KINDS), random)
 }
 
-fn refuse_all(record: &Record, random: &mut Random, counts: &mut Counts) -> Result<(), String> {
+/// Calls of all numbers and, every other time, a table. Of the record a state may have been read.
+fn refuse_all(record: &Record, read: Option<&State>, random: &mut Random, counts: &mut Counts, reached: &mut Reached) -> Result<(), String> {
     let profile = any_profile(random);
     let call = next_call(random, &profile, &State::empty(0));
     for number in 0..=23 {
@@ -114,7 +140,38 @@ fn refuse_all(record: &Record, random: &mut Random, counts: &mut Counts) -> Resu
         expect(record, &Call { number, ..call }, E_PAR)?;
     }
     counts.refused += 24 + unknown.len() as u64;
+    if random.percent(50) {
+        let table = any_table(&call, random);
+        counts.refused_tables.count(&table);
+        refuse_table(record, &table, random)?;
+        return read.map_or(Ok(()), |state| second_refuses_table(state, &table, reached));
+    }
     Ok(())
+}
+
+/// Of any length, with fewer cells than calls, as many or more. As no call is made, one is enough, with numbers in turn.
+fn any_table(call: &Call, random: &mut Random) -> Table {
+    let count = random.below(LONGEST as u32 + 1);
+    let cells = match random.below(3) {
+        0 => random.below(count.max(1)),
+        1 => count,
+        _ => count + random.between(1, 10),
+    };
+    let calls = (0..count).map(|number| Call { number, ..*call }).collect();
+    Table { calls, answers: random_marks(random, cells as usize) }
+}
+
+fn refuse_table(record: &Record, table: &Table, random: &mut Random) -> Result<(), String> {
+    let mut lent = *record;
+    let cells = cells_for_kernel(&table.answers, random);
+    let (code, left) = post_on_kernel(&mut lent, &table.calls, &cells);
+    if code == E_SYS && left == cells && lent == *record {
+        return Ok(());
+    }
+    let first_cell = (1..).zip(cells.iter().zip(&left)).find(|(_, (cell, left))| cell != left);
+    let text = format!("the kernel's code for a table: {}\n{table}first cell that changed: {first_cell:?}\n", code_name(code));
+    let change = first_change(record, &lent);
+    Err(format!("{text}changed: {change}\n── the record, which isn't sound ──\n{}", damaged_in_words(record)))
 }
 
 fn expect(record: &Record, call: &Call, code: i32) -> Result<(), String> {
@@ -132,4 +189,25 @@ fn expect(record: &Record, call: &Call, code: i32) -> Result<(), String> {
 /// The state, or all numbers of a record from which none can be read.
 fn damaged_in_words(record: &Record) -> String {
     state_of(record).map_or_else(|| format!("{record:?}"), |state| state.to_string())
+}
+
+#[cfg(test)]
+mod tests {
+    use super::*;
+
+    /// Tables of any length pass where the record isn't sound; where it is, each program would be found to take them or to give E_PAR.
+    #[test]
+    fn refused_tables() {
+        let mut random = Random::new(1);
+        let mut state = State::empty(0);
+        state.tasks[1].suspended = true;
+        let mut reached = Reached::new();
+        for _ in 0..500 {
+            let table = any_table(&Call::default(), &mut random);
+            let unsound = record_of(&state, &mut random);
+            assert!(refuse_table(&unsound, &table, &mut random).is_ok() && second_refuses_table(&state, &table, &mut reached).is_ok());
+            assert!(refuse_table(&Record::empty(), &table, &mut random).is_err());
+            assert!(second_refuses_table(&State::empty(0), &table, &mut reached).is_err());
+        }
+    }
 }
