@@ -202,17 +202,17 @@ pub fn table_judge(state: State, call: HostCall) -> Judgement
 }
 
 // The record that holds the state after the last call: its tasks are written back once a table, and what they say already stays as it is.
-pub fn restored(lent: HostRecord, state: State) -> HostRecord
-    ensures { λ r. ⌜ r ≡ restored lent state ⌝ }
+pub fn restored(lent: HostRecord, last: State) -> HostRecord
+    ensures { λ r. ⌜ r ≡ restored lent last ⌝ }
 {
     let numbers = lent.tasks;
-    let tasks = state.tasks;
-    let queues = state.queues;
-    let waiting = state.waiting;
-    let messages = state.messages;
-    let mailboxes = state.mailboxes;
+    let tasks = last.tasks;
+    let queues = last.queues;
+    let waiting = last.waiting;
+    let messages = last.messages;
+    let mailboxes = last.mailboxes;
     HostRecord {
-        counter: state.counter,
+        counter: last.counter,
         tasks: host_tasks::rewrite_all(numbers, tasks),
         queues,
         waiting,

@@ -108,7 +108,3 @@ single-made step = record { row = λ r. r ∷ []; no-entry = refl; one-entry = �
 pub rows-made : {S R A : Type 0} (step : S → R → Result S A) → MadeOf step (in-a-row step) flatten
 unfolding in-a-row flatten
 rows-made step = record { row = λ rs. rs; no-entry = refl; one-entry = λ rs rss. refl; state-is = λ s rs. refl; by-answers = λ s t rs e. e }
-
-pub in-rows : {I S R A : Type 0} (same-owner : Discrete I) (step : S → R → Result S A) (s : S) (lists : I → List (List R))
-    → SeparateAll same-owner step s (λ i. flatten (lists i)) → SeparateAll same-owner (in-a-row step) s lists
-in-rows same-owner step = made-of-calls same-owner (rows-made step)
