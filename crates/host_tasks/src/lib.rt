@@ -192,10 +192,10 @@ pub fn rewrite_all(
 ) -> [HostTask; TASK_CELLS]
     ensures { λ r. ⌜ r ≡ rewrite-all numbers tasks ⌝ }
 {
-    let mut t: usize = 0;
-    while t < TASK_CELLS {
-        numbers[t] = rewritten(numbers[t], tasks[t]);
-        t += 1;
+    let mut n: usize = 0;
+    while n < TASK_CELLS {
+        numbers[n] = rewritten(numbers[n], tasks[n]);
+        n += 1;
     }
     numbers
 }

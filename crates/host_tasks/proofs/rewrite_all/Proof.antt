@@ -11,10 +11,10 @@ abbrev outside : HostTask
 outside = record { word = 0; end = 0; sending = 0; wait = 0; object = 0; timed = 0; code = 0; flags = 0 }
 
 abbrev Inv-loop : tie.InvT-loop
-Inv-loop numbers₀ tasks t₀ numbers t = SoFar outside numbers₀ tasks numbers t
+Inv-loop numbers₀ tasks n₀ numbers n = SoFar outside numbers₀ tasks numbers n
 
 abbrev μ-loop : tie.MeasureT-loop
-μ-loop numbers₀ tasks t₀ numbers t = 33 - t
+μ-loop numbers₀ tasks n₀ numbers n = 33 - n
 
 loop-holds : tie.Need-loop-holds Inv-loop μ-loop
 loop-holds c = begins outside (search needs) (search needs)
@@ -40,8 +40,8 @@ mul-numbers c = let h = c .before .before .before .loop-test .taken in omega ari
 array-set-from-numbers : tie.Need-array-set-from-numbers Inv-loop μ-loop
 array-set-from-numbers c = let h = c .before .before .before .loop-test .taken in omega arith
 
-add-t : tie.Need-add-t Inv-loop μ-loop
-add-t c = let h = c .before .before .before .loop-test .taken in omega arith
+add-n : tie.Need-add-n Inv-loop μ-loop
+add-n c = let h = c .before .before .before .loop-test .taken in omega arith
 
 loop-less : tie.Need-loop-less Inv-loop μ-loop
 loop-less c = let h = c .before .before .before .loop-test .taken in omega arith
@@ -66,7 +66,7 @@ rewrite-all-spec =
     rewritten-requires
     mul-numbers
     array-set-from-numbers
-    add-t
+    add-n
     loop-less
     loop-again
     returns)
