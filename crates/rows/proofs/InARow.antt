@@ -4,6 +4,7 @@ use mathlib.Core.List.{List, [], _∷_, _++_, map, flatten, head-eq-of-cons-eq, 
 use Rattle.rows.specs.Program.{Result}
 use Rattle.rows.specs.Runs.{end, answers, in-a-row}
 use Rattle.rows.specs.Merges.{share, end-of-turns, answers-of-turns, SeparateAll}
+use Rattle.rows.proofs.Runs.{answers-append}
 use Rattle.rows.proofs.Two.{keep-yes, keep-no}
 
 -- `entry` is the step of an entry, `calls` the calls that a list of entries stands for. An entry leaves the state that its calls leave in a row, and what it
@@ -18,11 +19,6 @@ pub record MadeOf {S R A X Y : Type 0} (step : S → R → Result S A) (entry : 
 -- ── Calls in a row, and others after them ──
 
 module _ {S R A : Type 0} (step : S → R → Result S A) where
-  answers-append : (s : S) (xs ys : List R) → answers step s (xs ++ ys) ≡ answers step s xs ++ answers step (end step s xs) ys
-  unfolding answers end
-  answers-append s [] ys = refl
-  answers-append s (x ∷ xs) ys = ap (λ l. step s x .answer ∷ l) (answers-append (step s x .state) xs ys)
-
   -- As many answers as calls: where the answers with others after them are equal, so are the two parts.
   answers-apart : (s t : S) (xs : List R) {ys zs : List A} → answers step s xs ++ ys ≡ answers step t xs ++ zs → (answers step s xs ≡ answers step t xs) × (ys ≡ zs)
   unfolding answers

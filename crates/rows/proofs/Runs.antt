@@ -1,8 +1,19 @@
--- A run whose steps follow a defined step follows the defined run: by induction on the run.
+-- Calls in a row, and others after them: by induction on the first. A run whose steps follow a defined step follows the defined run: by induction on the run.
 use mathlib.Core.Path.{_≡_, refl, _∙_, ap, ap₂}
-use mathlib.Core.List.{List, _∷_}
+use mathlib.Core.List.{List, [], _∷_, _++_}
 use Rattle.rows.specs.Program.{Result}
 use Rattle.rows.specs.Runs.{end, answers, Run, no-call, one-call}
+
+module _ {S R A : Type 0} (step : S → R → Result S A) where
+  pub end-append : (s : S) (xs ys : List R) → end step s (xs ++ ys) ≡ end step (end step s xs) ys
+  unfolding end
+  end-append s [] ys = refl
+  end-append s (x ∷ xs) ys = end-append (step s x .state) xs ys
+
+  pub answers-append : (s : S) (xs ys : List R) → answers step s (xs ++ ys) ≡ answers step s xs ++ answers step (end step s xs) ys
+  unfolding answers end
+  answers-append s [] ys = refl
+  answers-append s (x ∷ xs) ys = ap (λ l. step s x .answer ∷ l) (answers-append (step s x .state) xs ys)
 
 -- A record s means the state `means s`. A step that finds a sound record leaves one, which means what `defined` leaves, and gives what `defined` answers.
 module _ {S M X Y : Type 0} {Steps : S → X → S → Y → Type 0} (means : S → M) (Sound : S → Type 0) (defined : M → X → Result M Y)

@@ -1,0 +1,129 @@
+// Replays a recording (document 02, item 3): reads it from standard input to its end, in blocks, and prints the line. Where a read fails it says so on standard
+// error and prints no line.
+ghost use Rattle.replays.specs.Replays.{SoundReplay};
+use libc::EINTR;
+use libc::STDERR_FILENO;
+use libc::STDIN_FILENO;
+use libc::STDOUT_FILENO;
+use model::Code;
+use replays::Replay;
+
+// After so many reads a terminal is shown how far the replay is.
+const READS_BETWEEN: u64 = 4096;
+
+// A number with its name, and whether it could be written.
+fn print_named(file: i32, name: &[u8], number: u64) -> bool {
+    if !io::write_all(file, name) {
+        return false;
+    }
+    io::print_decimal(file, number)
+}
+
+// The line, and whether it could be written.
+fn print_line(replay: Replay) -> bool {
+    let tally = replay.tally;
+    let counts = print_named(STDOUT_FILENO, b"records ", tally.records)
+        && print_named(STDOUT_FILENO, b" differ ", tally.differ);
+    counts
+        && print_named(STDOUT_FILENO, b" first ", tally.first)
+        && print_named(STDOUT_FILENO, b" tail ", replay.length as u64)
+        && io::write_all(STDOUT_FILENO, b"\n")
+}
+
+// Only a terminal is shown this, and only for a long recording.
+fn show_progress(replay: Replay, reads_left: u64) {
+    if reads_left % READS_BETWEEN != 0 {
+        return;
+    }
+    if libc::isatty(STDERR_FILENO) != 1 {
+        return;
+    }
+    let tally = replay.tally;
+    print_named(STDERR_FILENO, b"records ", tally.records);
+    io::write_all(STDERR_FILENO, b" so far\n");
+}
+
+// The replay after a read, and whether there may be more to read.
+struct After {
+    replay: Replay,
+    goes_on: bool,
+}
+
+// A read that a signal interrupted before its first byte is made again. Of any other that failed a line tells why.
+fn after_failure() -> bool {
+    if os::errno() == EINTR {
+        return true;
+    }
+    os::fail(b"standard input");
+    false
+}
+
+fn after_end(replay: Replay) {
+    if !print_line(replay) {
+        os::fail(b"standard output");
+    }
+}
+
+fn after_bytes(replay: Replay, bytes: &[u8]) -> After
+    requires { ⌜ SoundReplay replay ⌝ }
+    ensures { λ r. ⌜ SoundReplay (r .replay) ⌝ }
+{
+    let fed = replay.feed(bytes);
+    let replay = fed.replay;
+    let code = fed.code;
+    match code {
+        Code::Ok => After {
+            replay,
+            goes_on: true,
+        },
+        _ => {
+            io::write_all(
+                STDERR_FILENO,
+                b"standard input: more records than 64 bits count\n",
+            );
+            After {
+                replay,
+                goes_on: false,
+            }
+        }
+    }
+}
+
+// One read: as many bytes as there are, up to the buffer's.
+fn turn(replay: Replay) -> After
+    requires { ⌜ SoundReplay replay ⌝ }
+    ensures { λ r. ⌜ SoundReplay (r .replay) ⌝ }
+{
+    let mut buffer = io::large_buffer();
+    let got = libc::read(STDIN_FILENO, &mut buffer);
+    if got < 0 {
+        return After {
+            replay,
+            goes_on: after_failure(),
+        };
+    }
+    let count = io::count(got, &buffer);
+    if count == 0 {
+        after_end(replay);
+        return After {
+            replay,
+            goes_on: false,
+        };
+    }
+    after_bytes(replay, &buffer[..count])
+}
+
+// A proved loop has to end, and nothing says that the input does. So the reads are counted down, from a number that no run uses up.
+fn main() {
+    let mut replay = Replay::new();
+    let mut reads_left = u64::MAX;
+    while 0 < reads_left {
+        let turned = turn(replay);
+        if !turned.goes_on {
+            return;
+        }
+        replay = turned.replay;
+        reads_left -= 1;
+        show_progress(replay, reads_left);
+    }
+}

@@ -1,0 +1,36 @@
+-- Document 02, item 3: the line's four numbers for the bytes of every file, and the kernel state, in whatever blocks the bytes come (item 5).
+use mathlib.Core.Path.{_≡_}
+use mathlib.Core.List.{List, flatten}
+use Prim.Native.Nat.{ℕ, _≤_}
+use lib.ListN.{length}
+use Rattle.lists.specs.Lists.{Each}
+use Rattle.rows.specs.Runs.{Run}
+use Rattle.model.specs.declared.Code.{Code}
+use Rattle.model.specs.declared.Code.the-variants.{Ok as E-OK}
+use Rattle.record.specs.Meaning.{abs}
+use Rattle.recording.specs.Replay.{records-of, Line, line, replayed}
+use Rattle.recording.specs.Blocks.{begun, line-of}
+use Rattle.replays.specs.declared.Replay.{Replay}
+use Rattle.replays.specs.Replays.{meaning, SoundReplay, count-limit, TakesBlock}
+
+-- The contract of one block: it found the replay as s, left it as `after` and gave the code.
+abbrev pub Feeds : Replay → List ℕ → Replay → Code → Type 0
+Feeds s block after code = TakesBlock s block (record { replay = after; code = code })
+
+-- The line that is printed: `Replay`'s three counts, and how many bytes of a part there are.
+abbrev pub line-in : Replay → Line
+line-in r = record { records = r .tally .records; differ = r .tally .differ; first = r .tally .first; tail = r .length }
+
+-- What a replay is after all bytes of a file.
+pub record Replayed (bytes : List ℕ) (r : Replay) : Type 0 where
+  pub line-is : line-in r ≡ line bytes
+  pub state-is : abs (r .state) ≡ replayed bytes
+  pub sound : SoundReplay r
+
+-- Every file, in any blocks: each block is taken, and the last one leaves the file's line and state. No unit writes 2 ^ 64 records; the block that would
+-- come to so many is refused with E_PAR, and changes nothing (`TakesBlock`).
+abbrev pub EveryFile : Type 0
+EveryFile =
+    (first last : Replay) (blocks : List (List ℕ)) (codes : List Code)
+    → SoundReplay first → meaning first ≡ begun → Run Feeds first blocks last codes → length (records-of (flatten blocks)) ≤ count-limit
+    → Each (λ code. code ≡ E-OK) codes × Replayed (flatten blocks) last
