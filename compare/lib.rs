@@ -7,6 +7,7 @@ pub mod damage;
 pub mod limits;
 pub mod play;
 pub mod record;
+pub mod replays;
 pub mod runs;
 pub mod tables;
 pub mod unsound;

@@ -1,8 +1,11 @@
 //! Compares the kernel with the second program. README.md beside this file says what is compared and how a difference is repeated.
 //! `compare short` plays 1,000,000 calls, `compare long [CALLS] [SEED]` 100,000,000 or as many as said; both with tables, damaged records and merges.
 //! `compare records [COUNT] [SEED]` and `compare carriers [COUNT] [SEED]` play those alone, `compare run KIND SEED` repeats one run.
-//! `compare mutant` stops at the first difference within 100,000 calls and prints one line. The exit status is 1 where something differs.
+//! `compare replays [COUNT] [SEED]` plays 2,500 files of records, or as many as said, on the program replay.
+//! `compare mutant` stops at the first difference within 100,000 calls, `compare mutant replays` within 1,000 files; both print one line.
+//! The exit status is 1 where something differs.
 #![forbid(unsafe_code)]
+use comparison::replays;
 use comparison::runs::{Kind, Totals};
 use std::fmt::{Display, Formatter};
 use std::process::ExitCode;
@@ -15,25 +18,38 @@ type Round = &'static [(Kind, u64)];
 const ALL_KINDS: Round = &[(Kind::Empty, 1), (Kind::Wrap, 1), (Kind::States, 5), (Kind::Records, 20), (Kind::Carriers, 4)];
 const RECORDS: Round = &[(Kind::Records, 20)];
 const CARRIERS: Round = &[(Kind::Carriers, 20)];
+const REPLAYS: Round = &[(Kind::Replays, 20)];
 /// The carriers' lists are played on the kernel alone, and say nothing of the second program.
 const FOR_A_MUTANT: Round = &[(Kind::Empty, 1), (Kind::Wrap, 1), (Kind::States, 5), (Kind::Records, 6)];
 
 const CALLS_FOR_A_MUTANT: u64 = 100_000;
+const FILES_FOR_A_MUTANT: u64 = 1_000;
 const BETWEEN_REPORTS: Duration = Duration::from_secs(10);
+
+/// What a comparison must have reached.
+#[derive(Clone, Copy)]
+enum Asked {
+    /// Some kinds of run alone say nothing of the rest.
+    Nothing,
+    /// Every row and path of the calls and tables.
+    Calls,
+    /// Every path of the replay.
+    Replays,
+}
 
 /// A run that found a difference.
 struct Found {
     kind: Kind,
     seed: u64,
-    /// Calls on the kernel until then, in all runs.
-    calls: u64,
+    /// Calls on the kernel until then, in all runs, or files.
+    place: String,
     text: String,
 }
 
 impl Display for Found {
     fn fmt(&self, to: &mut Formatter) -> std::fmt::Result {
         let (name, seed) = (self.kind.name(), self.seed);
-        writeln!(to, "DIFFERENCE at call {} in all. To repeat it: compare run {name} {seed}\n{}", self.calls, self.text)
+        writeln!(to, "DIFFERENCE at {} in all. To repeat it: compare run {name} {seed}\n{}", self.place, self.text)
     }
 }
 
@@ -59,7 +75,7 @@ impl Session {
                     let seed = self.next_seed;
                     self.next_seed += 1;
                     if let Err(text) = self.totals.run(kind, seed) {
-                        return Some(Found { kind, seed, calls: self.totals.all_calls(), text });
+                        return Some(Found { kind, seed, place: self.place(kind), text });
                     }
                 }
             }
@@ -71,50 +87,105 @@ impl Session {
         None
     }
 
+    /// How far the session has come, counted in what this kind plays.
+    fn place(&self, kind: Kind) -> String {
+        if kind == Kind::Replays {
+            return format!("file {}", self.totals.replays.files);
+        }
+        format!("call {}", self.totals.all_calls())
+    }
+
     fn progress(&self) -> String {
         let totals = &self.totals;
+        if totals.replays.files > 0 {
+            return format!("{} files replayed, 0 differences", totals.replays.files);
+        }
         let rate = totals.all_calls() as f64 / self.started.elapsed().as_secs_f64();
         let others = format!("{} tables, {} damaged records, {} merges", totals.all_tables(), totals.records.records(), totals.carriers.merges);
         format!("{} calls compared, {others}, 0 differences, {rate:.0} calls a second", totals.compared())
     }
 }
 
-/// Plays and prints all. True where nothing differs and, of a whole comparison, every row and path was reached.
-fn compare(mut session: Session, whole: bool, done: impl Fn(&Totals) -> bool) -> bool {
+/// Plays and prints all. True where nothing differs and all was reached that is asked for.
+fn compare(mut session: Session, asked: Asked, done: impl Fn(&Totals) -> bool) -> bool {
     let found = session.play(done);
     let seconds = session.started.elapsed().as_secs_f64();
     let totals = &session.totals;
-    print!("{}", totals.summary());
+    let (summary, played) = in_words(totals, asked);
+    print!("{summary}");
     // After a difference much is left unplayed, and says nothing.
-    let whole = whole && found.is_none();
-    let missing = if whole { totals.missing() } else { Vec::new() };
-    if whole {
-        println!("rows and paths of the second program, and how often each was reached\n{}", totals.reached);
-    }
+    let missing = if found.is_none() { never_reached(totals, asked) } else { Vec::new() };
     for what in &missing {
         println!("NEVER REACHED: {what}");
     }
     if let Some(found) = &found {
         print!("{found}");
+        print_kept(found.kind, found.seed);
     }
     let result = format!("{} differences, {} never reached", u32::from(found.is_some()), missing.len());
-    println!("{result}; {} calls and {} tables of all kinds in {seconds:.1} s", totals.all_calls(), totals.all_tables());
+    println!("{result}; {played} in {seconds:.1} s");
     found.is_none() && missing.is_empty()
 }
 
+/// What was compared, by kind, and in few words.
+fn in_words(totals: &Totals, asked: Asked) -> (String, String) {
+    let replays = &totals.replays;
+    match asked {
+        Asked::Replays => (replays.summary(), format!("{} files with {} records", replays.files, replays.records)),
+        Asked::Nothing | Asked::Calls => (totals.summary(), format!("{} calls and {} tables of all kinds", totals.all_calls(), totals.all_tables())),
+    }
+}
+
+/// Prints how often each row and path was reached. Gives those that never were.
+fn never_reached(totals: &Totals, asked: Asked) -> Vec<String> {
+    let what = "rows and paths of the second program, and how often each was reached";
+    match asked {
+        Asked::Nothing => Vec::new(),
+        Asked::Calls => {
+            println!("{what}\n{}", totals.reached);
+            totals.missing()
+        }
+        Asked::Replays => {
+            println!("{what}\n{}", totals.replays.reached);
+            totals.replays.missing()
+        }
+    }
+}
+
+fn print_kept(kind: Kind, seed: u64) {
+    if kind == Kind::Replays {
+        println!("{}", replays::keep(seed));
+    }
+}
+
 /// One line, for the script that tries mutants of the second program.
-fn mutant() -> bool {
-    let mut session = Session::new(FOR_A_MUTANT, 1);
-    match session.play(|totals| totals.all_calls() >= CALLS_FOR_A_MUTANT) {
+fn mutant(round: Round, limit: &str, done: impl Fn(&Totals) -> bool) -> bool {
+    match Session::new(round, 1).play(done) {
         None => {
-            println!("no difference in {CALLS_FOR_A_MUTANT} calls");
+            println!("no difference in {limit}");
             true
         }
         Some(found) => {
             let what = found.text.lines().next().unwrap_or_default();
-            println!("call {}, in a run of kind {}, seed {}: {what}", found.calls, found.kind.name(), found.seed);
+            println!("{}, in a run of kind {}, seed {}: {what}", found.place, found.kind.name(), found.seed);
             false
         }
+    }
+}
+
+/// Calls say nothing of how records are read, so a mutant of that is played on files alone.
+fn mutant_of(what: Option<&String>) -> Result<bool, String> {
+    match what.map(String::as_str) {
+        None => {
+            let limit = format!("{CALLS_FOR_A_MUTANT} calls");
+            Ok(mutant(FOR_A_MUTANT, &limit, |totals| totals.all_calls() >= CALLS_FOR_A_MUTANT))
+        }
+        Some("replays") => {
+            replays::find_program()?;
+            let limit = format!("{FILES_FOR_A_MUTANT} files");
+            Ok(mutant(REPLAYS, &limit, |totals| totals.replays.files >= FILES_FOR_A_MUTANT))
+        }
+        Some(other) => Err(format!("mutants are played on calls, or on replays; '{other}' isn't known")),
     }
 }
 
@@ -127,29 +198,37 @@ fn run(arguments: &[String]) -> Result<bool, String> {
     let count = |usual| number_or(arguments.get(1), usual);
     let seed = || number_or(arguments.get(2), 1);
     match command {
-        "short" => Ok(compare(Session::new(ALL_KINDS, 1), true, |totals| totals.compared() >= 1_000_000)),
+        "short" => Ok(compare(Session::new(ALL_KINDS, 1), Asked::Calls, |totals| totals.compared() >= 1_000_000)),
         "long" => {
             let calls = count(100_000_000)?;
-            Ok(compare(Session::new(ALL_KINDS, seed()?), true, |totals| totals.compared() >= calls))
+            Ok(compare(Session::new(ALL_KINDS, seed()?), Asked::Calls, |totals| totals.compared() >= calls))
         }
         "records" => {
             let records = count(1_000_000)?;
-            Ok(compare(Session::new(RECORDS, seed()?), false, |totals| totals.records.records() >= records))
+            Ok(compare(Session::new(RECORDS, seed()?), Asked::Nothing, |totals| totals.records.records() >= records))
         }
         "carriers" => {
             let merges = count(100_000)?;
-            Ok(compare(Session::new(CARRIERS, seed()?), false, |totals| totals.carriers.merges >= merges))
+            Ok(compare(Session::new(CARRIERS, seed()?), Asked::Nothing, |totals| totals.carriers.merges >= merges))
         }
-        "mutant" => Ok(mutant()),
+        "replays" => {
+            let files = count(2_500)?;
+            replays::find_program()?;
+            Ok(compare(Session::new(REPLAYS, seed()?), Asked::Replays, |totals| totals.replays.files >= files))
+        }
+        "mutant" => mutant_of(arguments.get(1)),
         "run" => repeat(arguments.get(1), seed()?),
-        _ => Err("compare short | long [CALLS] [SEED] | records [COUNT] [SEED] | carriers [COUNT] [SEED] | mutant | run KIND SEED".to_string()),
+        _ => Err("compare short | long [CALLS] [SEED] | records, carriers or replays [COUNT] [SEED] | mutant [replays] | run KIND SEED".to_string()),
     }
 }
 
 fn repeat(kind: Option<&String>, seed: u64) -> Result<bool, String> {
-    let kind = kind.and_then(|name| Kind::named(name)).ok_or("kinds of run: empty, wrap, states, records, carriers")?;
+    let kind = kind.and_then(|name| Kind::named(name)).ok_or("kinds of run: empty, wrap, states, records, carriers, replays")?;
     let result = Totals::default().run(kind, seed);
     println!("{}", result.as_ref().err().map_or("no difference", String::as_str));
+    if result.is_err() {
+        print_kept(kind, seed);
+    }
     Ok(result.is_ok())
 }
 

@@ -4,6 +4,7 @@ use crate::damage::{Damage, DAMAGES};
 use crate::limits::next_call;
 use crate::play::Pair;
 use crate::record::{random_word, record_of};
+use crate::replays::{self, compare_replay};
 use crate::tables::{self, compare_table};
 use crate::unsound::{self, compare_damaged};
 use linguastel::Record;
@@ -21,6 +22,8 @@ pub enum Kind {
     Records,
     /// Merges of two carriers' lists.
     Carriers,
+    /// Files of records, on the program replay.
+    Replays,
 }
 
 /// In how many ways the second program finds a state not sound, but for lists that are too long and numbers in them that are out of range: from such
@@ -30,7 +33,7 @@ const FAULTS: usize = 22;
 /// So many of a hundred calls of a run have a table before them.
 const TABLES: u32 = 1;
 
-pub const KINDS: [Kind; 5] = [Kind::Empty, Kind::Wrap, Kind::States, Kind::Records, Kind::Carriers];
+pub const KINDS: [Kind; 6] = [Kind::Empty, Kind::Wrap, Kind::States, Kind::Records, Kind::Carriers, Kind::Replays];
 
 impl Kind {
     pub fn name(self) -> &'static str {
@@ -40,6 +43,7 @@ impl Kind {
             Kind::States => "states",
             Kind::Records => "records",
             Kind::Carriers => "carriers",
+            Kind::Replays => "replays",
         }
     }
 
@@ -51,7 +55,7 @@ impl Kind {
         match self {
             Kind::Empty | Kind::Wrap => 500,
             Kind::States => 200,
-            Kind::Records | Kind::Carriers => 0,
+            Kind::Records | Kind::Carriers | Kind::Replays => 0,
         }
     }
 }
@@ -92,6 +96,7 @@ pub struct Totals {
     pub tables: tables::Counts,
     pub records: unsound::Counts,
     pub carriers: carriers::Counts,
+    pub replays: replays::Counts,
     pub reached: Reached,
 }
 
@@ -113,7 +118,7 @@ impl Totals {
         compared + self.records.refused_tables.tables() + self.carriers.tables
     }
 
-    /// What was never reached: rows and paths of the second program, and damages that came to no record of one of the two kinds.
+    /// What was never reached in runs of calls: rows and paths of the second program, and damages that came to no record of one of the two kinds.
     pub fn missing(&self) -> Vec<String> {
         let mut missing: Vec<String> = self.reached.missing().into_iter().map(String::from).collect();
         for (kind, judged) in DAMAGES.iter().zip(&self.records.judged) {
@@ -153,6 +158,7 @@ impl Totals {
                 compare_damaged(&state, &mut random, &mut self.records, &mut self.reached)
             }
             Kind::Carriers => self.merge(&mut random),
+            Kind::Replays => compare_replay(&mut random, &mut self.replays),
         }
     }
 

@@ -1,11 +1,12 @@
 //! `trace FILE... [--counter N] [--details]` plays trace files on the kernel and on the second program, each from the empty state, at counter 0 or N,
-//! and prints for each file the line of document 02, item 3, that either of them gives. `--details` shows the first record that differs. The exit status is 1 where the two programs aren't of one mind, in an answer or in a state.
+//! and prints for each file the line of document 02, item 3, that either of them gives. `--details` shows the first record that differs. The exit
+//! status is 1 where the two programs aren't of one mind, in an answer or in a state.
 //! `trace --write FILE COUNT SEED [--counter N]` writes a trace of random calls with the second program's answers.
-//! `trace --write-bad FILE` writes the trace that `bad_trace` describes.
+//! `trace --write-damaged FILE COUNT SEED PERCENT` writes one of which so many of a hundred records are damaged, with a tail, and prints its line.
 #![forbid(unsafe_code)]
 use comparison::record::{answer_in_words, kernel_answer, kernel_call, state_of};
 use linguastel::Record;
-use second::{random_call, Answer, Call, Profile, Random, Reached, State};
+use second::{random_call, random_trace_and_end, Answer, Call, Profile, Random, Reached, State};
 use std::fmt::{Display, Formatter};
 use std::process::ExitCode;
 
@@ -229,20 +230,6 @@ impl Writer {
         self.bytes.extend(written(call, &answer).expect("an answer fits into a record"));
         true
     }
-
-    /// The same, with one byte of the record changed afterwards.
-    fn add_changed(&mut self, call: &Call, place: usize, byte: u8) {
-        self.add(call);
-        let start = self.bytes.len() - SIZE;
-        self.bytes[start + place] = byte;
-    }
-
-    /// The same for a record that isn't run: the state stays.
-    fn add_not_run(&mut self, call: &Call, place: usize, byte: u8) {
-        let state = self.state.clone();
-        self.add_changed(call, place, byte);
-        self.state = state;
-    }
 }
 
 fn random_trace(count: usize, seed: u64, counter: u32) -> Vec<u8> {
@@ -257,45 +244,6 @@ fn random_trace(count: usize, seed: u64, counter: u32) -> Vec<u8> {
             writer.add(&call);
         }
     }
-    writer.bytes
-}
-
-/// 30 records, of which 15 differ, and a tail of 7 bytes. Nine aren't run: an unknown call, two unknown kinds, unknown flags in a call and in a tick,
-/// and each spare byte in turn. Six are run and have another answer than the right one. Two have something in fields that their calls don't use, and
-/// don't differ. Those at the end have the right answers only if the nine were left out and the six were run.
-fn bad_trace() -> Vec<u8> {
-    let handler = |number, object, value| Call { number, object, value, ..Call::default() };
-    let by_task = |caller, number, object, value| Call { caller, ..handler(number, object, value) };
-    let tick = Call::default();
-    let mut writer = Writer::empty(0);
-    for task in 1..=3 {
-        writer.add(&handler(1, task, 5));
-    }
-    writer.add(&handler(2, 1, 2));
-    // Each of these would store a word, or count a tick.
-    for (place, byte) in [(0, 24), (16, 2), (16, 255), (2, 4), (17, 1), (18, 1), (19, 1), (31, 1)] {
-        writer.add_not_run(&handler(5, 1, 99), place, byte);
-    }
-    writer.add_not_run(&tick, 2, 4);
-    writer.add(&handler(11, 1, 0));
-    // Unused fields: the attribute of a send, and caller, known flags, object, value and tmout of a tick.
-    writer.add(&Call { attribute: 7, tmout: -9, ..handler(5, 1, 10) });
-    writer.add(&Call { caller: 200, locked: true, disabled: true, object: 77, value: 5, tmout: -9, attribute: 1, ..tick });
-    // Run, with another code, a, b and c than the right ones; then a wait with a word, and one with another place.
-    writer.add_changed(&handler(5, 1, 11), 20, 1);
-    writer.add_changed(&by_task(1, 9, 1, 0), 24, 11);
-    writer.add_changed(&handler(11, 1, 0), 28, 1);
-    writer.add_changed(&handler(11, 1, 0), 30, 1);
-    writer.add(&by_task(1, 5, 1, 12));
-    writer.add_changed(&by_task(1, 4, 1, 13), 24, 1);
-    writer.add_changed(&by_task(2, 4, 1, 14), 20, 0);
-    for task in 1..=3 {
-        writer.add(&handler(22, task, 0));
-    }
-    for _ in 0..4 {
-        writer.add(&by_task(3, 9, 1, 0));
-    }
-    writer.bytes.extend([1; 7]);
     writer.bytes
 }
 
@@ -357,11 +305,21 @@ fn write_random(arguments: &[String]) -> Result<bool, String> {
     write_file(path, &random_trace(count, seed, counter))
 }
 
+fn write_damaged(arguments: &[String]) -> Result<bool, String> {
+    let path = arguments.first().ok_or("the file's name is missing")?;
+    let (count, seed, damage) = (number_in(arguments.get(1))?, number_in(arguments.get(2))?, number_in(arguments.get(3))?);
+    let mut random = Random::new(seed);
+    let profile = Profile::new(random.pick(&second::KINDS), &mut random);
+    let trace = random_trace_and_end(&mut random, &profile, count, damage);
+    println!("{}", trace.line);
+    write_file(path, &trace.bytes)
+}
+
 fn run(arguments: &[String]) -> Result<bool, String> {
     match arguments.first().map(String::as_str) {
         None => Err("no file is named".to_string()),
         Some("--write") => write_random(&arguments[1..]),
-        Some("--write-bad") => write_file(arguments.get(1).ok_or("the file's name is missing")?, &bad_trace()),
+        Some("--write-damaged") => write_damaged(&arguments[1..]),
         Some(_) => play_files(arguments),
     }
 }
@@ -440,10 +398,5 @@ mod tests {
             assert_eq!(replay.second.to_string(), "records 2000 differ 0 first 0 tail 0");
             assert_eq!(replay.kernel, replay.second);
         }
-    }
-
-    #[test]
-    fn bad_records() {
-        assert_eq!(line(&bad_trace()), "records 30 differ 15 first 5 tail 7");
     }
 }

@@ -1,8 +1,8 @@
 //! A second program for data queues, mailboxes, task states and the tick.
 //! It was written from the papers 01-scope.md and, from item 1 on,
 //! 02-change-requests.md alone, to be compared with the proved kernel. Of the
-//! latter it has items 1 and 2. Every list is a plain `Vec`, in the order of
-//! the list.
+//! latter it has items 1, 2 and 3. Every list is a plain `Vec`, in the order
+//! of the list.
 #![forbid(unsafe_code)]
 
 mod errors;
@@ -10,7 +10,10 @@ mod mailboxes;
 mod queues;
 mod random;
 mod random_states;
+mod random_traces;
 mod reached;
+mod reached_traces;
+mod replay;
 mod sound;
 mod state;
 mod table;
@@ -21,6 +24,9 @@ mod tests;
 pub use errors::*;
 pub use random::*;
 pub use random_states::*;
+pub use random_traces::*;
 pub use reached::*;
+pub use reached_traces::*;
+pub use replay::*;
 pub use state::*;
 pub use table::*;

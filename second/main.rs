@@ -4,6 +4,9 @@
 //! call, and checks it against its calls made singly. It prints how often each
 //! row and path was reached and exits with 1 if one was not reached or a check
 //! failed.
+//!
+//! `second replay` reads records from standard input to its end, replays them
+//! and prints the line of item 3 of document 02.
 #![forbid(unsafe_code)]
 
 use second::*;
@@ -18,12 +21,15 @@ const SHORT_LENGTH: u64 = 5;
 const TABLES: u32 = 1;
 
 fn main() {
+    if std::env::args().skip(1).eq(["replay"]) {
+        return replay_input();
+    }
     let arguments = std::env::args()
         .skip(1)
         .filter_map(|text| text.parse().ok());
     let arguments: Vec<u64> = arguments.collect();
     let [count, seed] = arguments[..] else {
-        eprintln!("usage: second COUNT SEED");
+        eprintln!("usage: second COUNT SEED, or second replay");
         exit(2);
     };
     let begun = Instant::now();
@@ -51,6 +57,17 @@ fn main() {
     }
     if !missing.is_empty() {
         exit(1);
+    }
+}
+
+/// Replays standard input and prints its line.
+fn replay_input() {
+    match replay_reader(std::io::stdin().lock()) {
+        Ok(replayed) => println!("{}", replayed.line),
+        Err(error) => {
+            eprintln!("standard input: {error}");
+            exit(2);
+        }
     }
 }
 

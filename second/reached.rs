@@ -7,16 +7,18 @@ use std::fmt;
 
 /// Lists each path once, with the words that the table prints for it.
 macro_rules! paths {
-    ($($name:ident: $text:literal,)*) => {
+    ($path:ident, $paths:ident; $($name:ident: $text:literal,)*) => {
         #[derive(Clone, Copy, PartialEq, Eq, Debug)]
-        pub enum Path { $($name,)* }
+        pub enum $path { $($name,)* }
 
-        /// Every path with its name, in the order of `Path`.
-        pub const PATHS: &[(Path, &str)] = &[$((Path::$name, $text),)*];
+        /// Every path with its name, in the order of the enum.
+        pub const $paths: &[($path, &str)] = &[$(($path::$name, $text),)*];
     };
 }
+pub(crate) use paths;
 
 paths! {
+    Path, PATHS;
     UnknownNumber: "step 0 E_PAR: call number above 23",
     UnsoundCall: "step 1 E_SYS: call on a state that is not sound",
     UnsoundTick: "step 1 E_SYS: tick on a state that is not sound",

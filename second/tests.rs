@@ -1,7 +1,9 @@
 //! The paper's sixteen runs, and some cases around them. Item 1 of document 02
-//! amends runs 10 and 11. The tables of its item 2 come last.
+//! amends runs 10 and 11. The tables of its item 2 and the replay of its item 3
+//! come last.
 
 use crate::*;
+use std::io::{self, Read};
 
 /// A state with the answers compared call by call.
 struct Run {
@@ -1212,4 +1214,496 @@ fn merges_of_tables() {
         assert!(alone.equal(&merged));
         assert_eq!(merged.counter, 0);
     }
+}
+
+/// The records of calls with the answers that they have from the empty state.
+fn recorded(calls: &[Call]) -> Vec<[u8; 32]> {
+    let mut state = State::empty(0);
+    let answers = answers(&mut state, calls);
+    let records = calls.iter().zip(&answers);
+    records
+        .map(|(call, answer)| record_of(call, answer))
+        .collect()
+}
+
+/// Task 1, a queue of capacity 2 and a word in it.
+fn first_calls() -> Vec<Call> {
+    vec![
+        call(DEFINE_TASK, 0, 1, 5),
+        call(CRE_DTQ, 0, 1, 2),
+        call(PSND_DTQ, 1, 1, 10),
+    ]
+}
+
+fn replay_records(records: &[[u8; 32]]) -> Replayed {
+    replay(&records.concat())
+}
+
+/// The line of these records in words.
+fn line_of(records: &[[u8; 32]]) -> String {
+    replay_records(records).line.to_string()
+}
+
+/// The record counts as differing and is not run.
+fn assert_not_run(before: &[[u8; 32]], record: [u8; 32]) {
+    let state = replay_records(before).state;
+    let replayed = replay_records(&[before, &[record]].concat());
+    let number = before.len() as u64 + 1;
+    let line = format!("records {number} differ 1 first {number} tail 0");
+    assert_eq!(replayed.line.to_string(), line, "{record:?}");
+    assert_eq!(replayed.state, state, "{record:?}");
+}
+
+/// Each field by its bytes, little-endian, tmout and code signed.
+#[test]
+fn fields_of_a_record() {
+    let mut bytes = [0; 32];
+    for (place, byte) in bytes.iter_mut().enumerate() {
+        *byte = 0x80 + place as u8;
+    }
+    let expected = Record {
+        number: 0x80,
+        caller: 0x81,
+        flags: 0x82,
+        object: 0x83,
+        value: 0x8786_8584,
+        tmout: 0x8B8A_8988_u32 as i32,
+        attribute: 0x8F8E_8D8C,
+        kind: 0x90,
+        spare: [0x91, 0x92, 0x93, 0x9F],
+        code: 0x9796_9594_u32 as i32,
+        place: 0x9796_9594,
+        a: 0x9B9A_9998,
+        b: 0x9C,
+        c: 0x9E9D,
+    };
+    assert_eq!(Record::decode(&bytes), expected);
+    assert!(expected.tmout < 0 && expected.code < 0);
+}
+
+/// The record of a refused call, written byte by byte.
+#[test]
+fn record_of_a_finished_call() {
+    let call = Call {
+        number: TSND_DTQ,
+        caller: 32,
+        locked: false,
+        disabled: true,
+        object: 16,
+        value: 0x0102_0304,
+        tmout: -2,
+        attribute: 0x0506_0708,
+    };
+    let answer = Answer::Finished {
+        code: E_TMOUT,
+        a: 0x090A_0B0C,
+        b: 13,
+        c: 0x0E0F,
+    };
+    let expected = [
+        6, 32, 2, 16, 4, 3, 2, 1, 0xFE, 0xFF, 0xFF, 0xFF, 8, 7, 6, 5, 0, 0, 0, 0, 0xCE, 0xFF, 0xFF,
+        0xFF, 12, 11, 10, 9, 13, 15, 14, 0,
+    ];
+    assert_eq!(record_of(&call, &answer), expected);
+    assert_eq!(Record::decode(&expected).call(), call);
+    assert!(Record::decode(&expected).has_answer(&answer));
+}
+
+/// The record of a wait has kind 1, its place and zero words.
+#[test]
+fn record_of_a_wait() {
+    let mut locked = call(RCV_DTQ, 1, 2, 0);
+    locked.locked = true;
+    let record = record_of(&locked, &Answer::Waits { place: 31 });
+    let mut expected = [0; 32];
+    expected[..4].copy_from_slice(&[8, 1, 1, 2]);
+    expected[16] = 1;
+    expected[20] = 31;
+    assert_eq!(record, expected);
+}
+
+#[test]
+fn empty_file() {
+    let replayed = replay(&[]);
+    let line = "records 0 differ 0 first 0 tail 0";
+    assert_eq!(replayed.line.to_string(), line);
+    assert_eq!(replayed.state, State::empty(0));
+}
+
+/// The paper's three records whose second answer differs.
+#[test]
+fn second_of_three_differs() {
+    let mut records = recorded(&first_calls());
+    assert_eq!(line_of(&records), "records 3 differ 0 first 0 tail 0");
+    records[1][20] = 1;
+    assert_eq!(line_of(&records), "records 3 differ 1 first 2 tail 0");
+}
+
+/// First stays with the first of several, and record 1 has number 1.
+#[test]
+fn first_of_several() {
+    let mut records = recorded(&first_calls());
+    records[2][24] = 1;
+    assert_eq!(line_of(&records), "records 3 differ 1 first 3 tail 0");
+    records[0][24] = 1;
+    assert_eq!(line_of(&records), "records 3 differ 2 first 1 tail 0");
+}
+
+/// A record of 32 zeros is a tick that ends no wait.
+#[test]
+fn tick_is_a_known_call() {
+    let replayed = replay(&[0; 64]);
+    let line = "records 2 differ 0 first 0 tail 0";
+    assert_eq!(replayed.line.to_string(), line);
+    assert_eq!(replayed.state, State::empty(2));
+}
+
+/// An unknown number is not run, though step 0 would give the same answer.
+#[test]
+fn unknown_call_is_not_run() {
+    let before = recorded(&first_calls());
+    for number in 24..=255 {
+        let unknown = call(number, 1, 1, 11);
+        assert_not_run(&before, record_of(&unknown, &Answer::refused(E_PAR)));
+    }
+    for number in 0..=23 {
+        let known = call(number, 0, 99, 0);
+        assert_eq!(replay_records(&recorded(&[known])).line.differ, 0);
+    }
+}
+
+/// Every other kind, whichever of the two the answer has.
+#[test]
+fn unknown_kind_is_not_run() {
+    let before = recorded(&first_calls());
+    for answer in [Answer::done(0, 0, 0), Answer::Waits { place: 0 }] {
+        for kind in 2..=255 {
+            let mut record = record_of(&call(PSND_DTQ, 1, 1, 11), &answer);
+            record[16] = kind;
+            assert_not_run(&before, record);
+        }
+    }
+}
+
+/// An unknown flag, in a tick too; there the known ones are ignored.
+#[test]
+fn unknown_flag_is_not_run() {
+    let before = recorded(&first_calls());
+    for flags in 4..=255 {
+        for number in [TICK, PSND_DTQ, LOOK] {
+            let mut record = record_of(&call(number, 1, 1, 11), &Answer::done(0, 0, 0));
+            record[2] = flags;
+            assert_not_run(&before, record);
+        }
+    }
+    for flags in 0..=3 {
+        let mut tick = [0; 32];
+        tick[2] = flags;
+        let replayed = replay(&tick);
+        assert_eq!((replayed.line.differ, replayed.state.counter), (0, 1));
+    }
+}
+
+/// Flags 1 and 2 are the context of a call.
+#[test]
+fn known_flags_of_a_call() {
+    let mut records = recorded(&first_calls());
+    let receive = call(RCV_DTQ, 1, 1, 0);
+    let codes = [(1, E_CTX), (2, E_CTX), (3, E_CTX), (0, E_OK)];
+    for (flags, code) in codes {
+        let a = if code == E_OK { 10 } else { 0 };
+        let (b, c) = (0, 0);
+        let mut record = record_of(&receive, &Answer::Finished { code, a, b, c });
+        record[2] = flags;
+        records.push(record);
+    }
+    // Dispatching disabled is no reason for a poll.
+    let mut poll = record_of(&call(PSND_DTQ, 1, 1, 11), &Answer::done(0, 0, 0));
+    poll[2] = 2;
+    records.push(poll);
+    assert_eq!(line_of(&records), "records 8 differ 0 first 0 tail 0");
+}
+
+/// Bytes 17, 18, 19 and 31, in calls, waits and ticks.
+#[test]
+fn spare_bytes_are_zero() {
+    let before = recorded(&first_calls());
+    for place in [17, 18, 19, 31] {
+        for value in 1..=255 {
+            for number in [TICK, PSND_DTQ, RCV_MBX] {
+                let mut record = record_of(&call(number, 1, 1, 11), &Answer::done(0, 0, 0));
+                record[place] = value;
+                assert_not_run(&before, record);
+                record[16] = 1;
+                assert_not_run(&before, record);
+            }
+        }
+    }
+}
+
+/// Several reasons count once, and the next record is run from the same state.
+#[test]
+fn after_a_record_that_is_not_run() {
+    let mut records = recorded(&first_calls());
+    records.insert(1, [0xFF; 32]);
+    records.insert(1, [0xFF; 32]);
+    assert_eq!(line_of(&records), "records 5 differ 2 first 2 tail 0");
+}
+
+/// An answer that differs was run all the same, with the state that it left.
+#[test]
+fn after_an_answer_that_differs() {
+    let mut records = recorded(&first_calls());
+    records[2][20] = 0xCE;
+    let poll = call(PRCV_DTQ, 1, 1, 0);
+    records.push(record_of(&poll, &Answer::done(10, 0, 0)));
+    records.push(record_of(&poll, &Answer::refused(E_TMOUT)));
+    assert_eq!(line_of(&records), "records 5 differ 1 first 3 tail 0");
+}
+
+/// Every bit of the answer counts, of a finished one and of a wait; a wait
+/// with other words than 0 is run and differs.
+#[test]
+fn every_bit_of_an_answer() {
+    let mut calls = first_calls();
+    calls.push(call(REF_DTQ, 0, 1, 0));
+    calls.push(call(RCV_DTQ, 1, 1, 0));
+    calls.push(call(RCV_DTQ, 1, 1, 0));
+    let records = recorded(&calls);
+    assert_eq!(records[5][16], 1);
+    let state = replay_records(&records).state;
+    for number in 0..records.len() {
+        // The bytes from code or place to c, and the kind.
+        let bits = (0..88).map(|bit| (20 + bit / 8, 1 << (bit % 8)));
+        for (byte, bit) in bits.chain([(16, 1)]) {
+            let mut changed = records.clone();
+            changed[number][byte] ^= bit;
+            let replayed = replay_records(&changed);
+            let first = number + 1;
+            let line = format!("records 6 differ 1 first {first} tail 0");
+            assert_eq!(replayed.line.to_string(), line);
+            assert_eq!(replayed.state, state);
+        }
+    }
+}
+
+/// Whether a call uses bytes 4 to 7, tmout, and bytes 12 to 15.
+fn used_fields(number: u32) -> [bool; 3] {
+    let value = [1, 2, 4, 5, 6, 7, 12, 14].contains(&number);
+    let tmout = [6, 10, 17].contains(&number);
+    let attribute = [2, 12, 14].contains(&number);
+    [value, tmout, attribute]
+}
+
+/// Any bits in fields that the call does not use change nothing. Of a tick
+/// this is so for the caller and the object too.
+#[test]
+fn unused_fields_are_ignored() {
+    let before = recorded(&first_calls());
+    for number in 0..=23 {
+        let mut calls = first_calls();
+        calls.push(call(number, 1, 1, 11));
+        let records = recorded(&calls);
+        let expected = replay_records(&records).state;
+        let mut record = records[3];
+        for (field, used) in used_fields(number).iter().enumerate() {
+            if !used {
+                record[4 + 4 * field..8 + 4 * field].fill(0xFF);
+            }
+        }
+        if number == TICK {
+            record[1..4].copy_from_slice(&[0xFF, 3, 0xFF]);
+        }
+        let replayed = replay_records(&[&before[..], &[record]].concat());
+        assert_eq!(replayed.line.differ, 0, "{number}");
+        assert_eq!(replayed.state, expected, "{number}");
+    }
+}
+
+/// The highest priority of a mailbox without attribute 2, and the priority of
+/// a message to it, are not used.
+#[test]
+fn unused_priorities_are_ignored() {
+    for attribute in [0, 1] {
+        let create = Call {
+            attribute,
+            ..call(CRE_MBX, 0, 1, u32::MAX)
+        };
+        let send = Call {
+            attribute: u32::MAX,
+            ..call(SND_MBX, 0, 1, 64)
+        };
+        let done = Answer::done(0, 0, 0);
+        let records = [record_of(&create, &done), record_of(&send, &done)];
+        assert_eq!(line_of(&records), "records 2 differ 0 first 0 tail 0");
+    }
+}
+
+/// A field that the call uses is taken whole: a bit above its lowest byte
+/// makes a valid number invalid.
+#[test]
+fn used_fields_are_taken_whole() {
+    let with = |attribute, call| Call { attribute, ..call };
+    let mailbox = with(2, call(CRE_MBX, 0, 1, 4));
+    let calls = [
+        call(DEFINE_TASK, 0, 1, 5),
+        call(CRE_DTQ, 0, 1, 2),
+        with(2, call(CRE_MBX, 0, 2, 4)),
+        with(4, call(SND_MBX, 0, 1, 64)),
+    ];
+    for (call, bit) in calls
+        .iter()
+        .flat_map(|call| (8..32).map(move |bit| (call, bit)))
+    {
+        let (mut value, mut attribute) = (*call, *call);
+        value.value |= 1 << bit;
+        attribute.attribute |= 1 << bit;
+        for (wide, used) in [(value, true), (attribute, used_fields(call.number)[2])] {
+            let answer = if used {
+                Answer::refused(E_PAR)
+            } else {
+                Answer::done(0, 0, 0)
+            };
+            let records = [recorded(&[mailbox])[0], record_of(&wide, &answer)];
+            assert_eq!(line_of(&records), "records 2 differ 0 first 0 tail 0");
+        }
+    }
+}
+
+/// A word comes back with all its 32 bits, and tmout is signed.
+#[test]
+fn words_and_time_outs_are_taken_whole() {
+    let timed = |tmout| Call {
+        tmout,
+        ..call(TRCV_DTQ, 1, 1, 0)
+    };
+    let mut calls = first_calls();
+    calls[2].value = 0xFEDC_BA98;
+    calls.extend([
+        timed(-1),
+        timed(-2),
+        timed(i32::MAX),
+        timed(256),
+        call(TICK, 0, 0, 0),
+    ]);
+    let codes: Vec<i32> = recorded(&calls)
+        .iter()
+        .map(|record| Record::decode(record).code)
+        .collect();
+    assert_eq!(codes, [0, 0, 0, 0, E_PAR, E_PAR, 0, 0]);
+    let replayed = replay_records(&recorded(&calls));
+    assert_eq!(replayed.line.differ, 0);
+    assert_eq!(recorded(&calls)[3][24..28], [0x98, 0xBA, 0xDC, 0xFE]);
+    assert_eq!(replayed.state.task(1).wait.end(), Some(257));
+}
+
+/// The tail is counted and not looked at, with records before it and without.
+#[test]
+fn bytes_after_the_last_whole_record() {
+    for tail in 0..32 {
+        for byte in [0, 1, 0xFF] {
+            let mut bytes = recorded(&first_calls()).concat();
+            let state = replay(&bytes).state;
+            bytes.extend(vec![byte; tail]);
+            let replayed = replay(&bytes);
+            let line = format!("records 3 differ 0 first 0 tail {tail}");
+            assert_eq!(replayed.line.to_string(), line);
+            assert_eq!(replayed.state, state);
+            let alone = replay(&bytes[96..]);
+            let line = format!("records 0 differ 0 first 0 tail {tail}");
+            assert_eq!(alone.line.to_string(), line);
+            assert_eq!(alone.state, State::empty(0));
+        }
+    }
+}
+
+/// Gives its bytes a few at a time.
+struct Few<'a> {
+    bytes: &'a [u8],
+    at_once: usize,
+}
+
+impl Read for Few<'_> {
+    fn read(&mut self, buffer: &mut [u8]) -> io::Result<usize> {
+        let count = self.at_once.min(buffer.len());
+        self.bytes.read(&mut buffer[..count])
+    }
+}
+
+/// However the file comes in, the reader gives what the whole file gives.
+#[test]
+fn replay_of_a_reader() {
+    let mut random = Random::new(13);
+    for turn in 0..200 {
+        let profile = Profile::new(KINDS[turn % KINDS.len()], &mut random);
+        let length = random.below(20);
+        let bytes = random_trace(&mut random, &profile, length, 20);
+        let at_once = random.between(1, 70) as usize;
+        let bytes = &bytes[..];
+        let read = replay_reader(Few { bytes, at_once }).expect("no error here");
+        assert_eq!(read, replay(bytes));
+    }
+    // More than one block, with the end of a block at and near that of a file.
+    for length in [1 << 20, (1 << 20) + 1, (1 << 20) - 1, (1 << 20) + 63] {
+        let ticks = vec![0; length];
+        let read = replay_reader(&ticks[..]).expect("no error here");
+        let line = Line {
+            records: length as u64 / 32,
+            differ: 0,
+            first: 0,
+            tail: length as u64 % 32,
+        };
+        assert_eq!(read.line, line);
+        assert_eq!(read.state, State::empty(length as u32 / 32));
+    }
+}
+
+/// A number above 255 fits no byte, and 255 gets the same answer.
+#[test]
+fn large_numbers_in_a_record() {
+    let mut random = Random::new(14);
+    for turn in 0..1_100 {
+        let profile = Profile::new(KINDS[turn % KINDS.len()], &mut random);
+        let state = random_sound_state(&mut random);
+        let call = random_call(&mut random, &profile, &state);
+        let (mut one, mut two) = (state.clone(), state);
+        let answer = one.play(&call, &mut Reached::new());
+        let record = Record::decode(&record_of(&call, &answer));
+        let other = two.play(&record.call(), &mut Reached::new());
+        assert_eq!((other, two), (answer, one), "{call}");
+        assert!(record.has_answer(&answer));
+    }
+}
+
+/// The line and the state are those that the making of a trace tells, and a
+/// trace without damage differs nowhere. Every path of the replay is reached.
+#[test]
+fn random_traces() {
+    let mut random = Random::new(15);
+    let mut reached = TraceReached::new();
+    for turn in 0..1_100 {
+        let profile = Profile::new(KINDS[turn % KINDS.len()], &mut random);
+        let length = random.pick(&[0, 1, 2, 100, 200]);
+        let damage = random.pick(&[0, 1, 10, 50]);
+        let trace = random_trace_and_end(&mut random, &profile, length, damage);
+        let replayed = replay(&trace.bytes);
+        assert_eq!(replayed.line, trace.line);
+        assert_eq!(replayed.state, trace.state);
+        assert_eq!(replayed.line.records, length as u64);
+        assert!(damage > 0 || replayed.line.differ == 0);
+        reached.merge(&replayed.reached);
+    }
+    assert_eq!(reached.missing(), Vec::<&str>::new(), "{reached}");
+}
+
+/// The same seed gives the same trace.
+#[test]
+fn random_traces_again() {
+    let trace = |seed| {
+        let mut random = Random::new(seed);
+        let profile = Profile::new(Kind::Few, &mut random);
+        random_trace(&mut random, &profile, 50, 10)
+    };
+    assert_eq!(trace(1), trace(1));
+    assert_ne!(trace(1), trace(2));
 }

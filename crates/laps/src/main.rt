@@ -1,7 +1,7 @@
 // Plays calls on one state record in one of three ways, so that what a call costs can be counted from outside (bench/enter): through the entry, by
-// the step behind the soundness test, or not at all. It reads records from standard input, as crates/traces does: the first says how, in its byte 0,
-// and gives the counter, in its bytes 4 to 7; the next make the record through the entry; those behind the mark are played as the first says, as
-// often as the input has them. It prints a checksum of their answers.
+// the step behind the soundness test, or not at all. It reads records of 32 bytes (document 02, item 3) from standard input: the first says how, in
+// its byte 0, and gives the counter, in its bytes 4 to 7; the next make the record through the entry; those behind the mark are played as the first
+// says, as often as the input has them. It prints a checksum of their answers.
 ghost use Prim.Native.Nat.{_+_, _≤_};
 ghost use Rattle.record.specs.Sound.{Sound};
 ghost use Rattle.record.specs.Step.{Stepped};
