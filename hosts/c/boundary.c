@@ -1,7 +1,7 @@
 /*
  * Tests the boundary between a host in C and the library: the layout, bad pointers and numbers, records that aren't sound, what calls write, tables
- * of calls, and hosts/runs through the header. `boundary FOLDER` reads the runs from that folder. The last line is 'N checks, M failed'; the exit
- * status is 1 where one failed.
+ * of calls, hosts/runs through the header, and the recording of calls. `boundary FOLDER` reads the runs from that folder. The last line is 'N checks,
+ * M failed'; the exit status is 1 where one failed.
  */
 #define _DEFAULT_SOURCE /* for mmap and sigaction, which C11 alone doesn't have */
 #include <inttypes.h>
@@ -1361,6 +1361,219 @@ static void test_error_table(void)
     play_all_ways("error_table.txt", 11);
 }
 
+/* ---- Groups: recording calls ---- */
+
+/* A call, its answer, and what belongs in the trace: all bytes, or none. */
+typedef struct {
+    LinguastelCall call;
+    LinguastelAnswer answer;
+    uint8_t bytes[LINGUASTEL_TRACE_SIZE];
+    size_t size;
+} Traced;
+
+/* Whether the text has a call and its answer. */
+static bool read_traced(const char *text, Traced *row)
+{
+    LinguastelCall *call = &row->call;
+    LinguastelAnswer *answer = &row->answer;
+    int fields = sscanf(text, "%" SCNu32 " %" SCNu32 " %" SCNu32 " %" SCNu32 " %" SCNu32 " %" SCNu32 " %" SCNd32 " %" SCNu32, &call->number,
+        &call->caller, &call->locked, &call->disabled, &call->object, &call->value, &call->tmout, &call->attribute);
+    fields += sscanf(text, "%*s %*s %*s %*s %*s %*s %*s %*s %" SCNu32 " %" SCNd32 " %" SCNu32 " %" SCNu32 " %" SCNu32 " %" SCNu32, &answer->kind,
+        &answer->code, &answer->place, &answer->a, &answer->b, &answer->c);
+    return fields == 14;
+}
+
+/* The line below it; a dash stands for a call that is left out. */
+static void read_traced_bytes(const char *text, Traced *row)
+{
+    int length = 0;
+    row->size = 0;
+    while (row->size < sizeof row->bytes && sscanf(text, " %2" SCNx8 "%n", &row->bytes[row->size], &length) == 1) {
+        text += length;
+        row->size++;
+    }
+    check(row->size == sizeof row->bytes || (row->size == 0 && strcmp(text, "    -\n") == 0), "a line with the bytes of a call");
+}
+
+/* The bytes of a call that is left out are written too. They hold a number that no call has, so that no tick is made of them. */
+static void check_left_out(const Traced *row, const uint8_t *written)
+{
+    uint8_t bytes[LINGUASTEL_TRACE_SIZE];
+    Traced known = *row;
+    known.call.number = LINGUASTEL_LAST_CALL;
+    linguastel_trace(bytes, known.call, known.answer);
+    uint32_t number = row->call.number;
+    check(written[0] == (number == 0 || number > 255 ? 255 : number), "the number of a call that is left out");
+    check(memcmp(written + 1, bytes + 1, sizeof bytes - 1) == 0, "the other bytes of a call that is left out");
+}
+
+/* All bytes are written, and none beside them. */
+static void check_traced(const Traced *row)
+{
+    static const uint8_t marks[] = { 0x00, 0xff, 0xa5 };
+    uint8_t memory[3 * LINGUASTEL_TRACE_SIZE], *bytes = memory + LINGUASTEL_TRACE_SIZE;
+    for (size_t i = 0; i < LENGTH(marks); i++) {
+        memset(memory, marks[i], sizeof memory);
+        check(linguastel_trace(bytes, row->call, row->answer) == row->size, "how many bytes belong in the trace");
+        check(all_are(memory, LINGUASTEL_TRACE_SIZE, marks[i]), "the memory before the bytes");
+        check(all_are(bytes + LINGUASTEL_TRACE_SIZE, LINGUASTEL_TRACE_SIZE, marks[i]), "the memory after the bytes");
+        if (row->size > 0) {
+            check(memcmp(bytes, row->bytes, row->size) == 0, "the bytes of a call");
+        } else {
+            check_left_out(row, bytes);
+        }
+    }
+}
+
+static void test_trace_bytes(void)
+{
+    char path[512], text[256];
+    Traced row;
+    size_t rows = 0;
+    snprintf(path, sizeof path, "%s/trace_bytes.txt", folder);
+    FILE *file = fopen(path, "r");
+    check(file != NULL, path);
+    while (file != NULL && fgets(text, sizeof text, file) != NULL) {
+        if (text[0] == '#' || text[0] == '\n') {
+            continue;
+        }
+        check(read_traced(text, &row) && fgets(text, sizeof text, file) != NULL, path);
+        read_traced_bytes(text, &row);
+        check_traced(&row);
+        rows++;
+    }
+    check(rows == 76, "the number of rows");
+    if (file != NULL) {
+        fclose(file);
+    }
+}
+
+static void test_trace_tick(void)
+{
+    static const LinguastelAnswer answers[] = { { .a = 0 }, { .a = 32 }, { .code = LINGUASTEL_E_SYS } };
+    uint8_t bytes[LINGUASTEL_TRACE_SIZE], of_call[LINGUASTEL_TRACE_SIZE];
+    for (size_t i = 0; i < LENGTH(answers); i++) {
+        check(linguastel_trace_tick(bytes, answers[i]) == sizeof bytes, "a tick is recorded");
+        linguastel_trace(of_call, (LinguastelCall){ .number = LINGUASTEL_TICK }, answers[i]);
+        check(memcmp(bytes, of_call, sizeof bytes) == 0, "the bytes of a tick");
+    }
+}
+
+/* The calls of a table in a row, without those of no call; nothing of a table that is refused. */
+static void test_trace_table(void)
+{
+    static const LinguastelCall calls[] = { { .number = 24 }, { .number = 1, .object = 1, .value = 5 }, { .number = 0 }, { .number = 22, .object = 1 } };
+    LinguastelAnswer cells[LENGTH(calls)];
+    LinguastelRecord record;
+    uint8_t bytes[(LENGTH(calls) + 1) * LINGUASTEL_TRACE_SIZE], expected[2 * LINGUASTEL_TRACE_SIZE];
+    linguastel_empty(&record);
+    int32_t code = linguastel_table(&record, calls, LENGTH(calls), cells, LENGTH(cells));
+    memset(bytes, 0xa5, sizeof bytes);
+    check(linguastel_trace_table(bytes, calls, LENGTH(calls), cells, code) == sizeof expected, "the calls of a table");
+    linguastel_trace(expected, calls[1], cells[1]);
+    linguastel_trace(expected + LINGUASTEL_TRACE_SIZE, calls[3], cells[3]);
+    check(memcmp(bytes, expected, sizeof expected) == 0, "the bytes of a table's calls");
+    check(all_are(bytes + LENGTH(calls) * LINGUASTEL_TRACE_SIZE, LINGUASTEL_TRACE_SIZE, 0xa5), "the memory after a table's bytes");
+
+    memset(bytes, 0xa5, sizeof bytes);
+    check(linguastel_trace_table(bytes, calls, LENGTH(calls), cells, LINGUASTEL_E_PAR) == 0, "a table that is too long");
+    check(linguastel_trace_table(bytes, calls, LENGTH(calls), cells, LINGUASTEL_E_SYS) == 0, "a table for a record that isn't sound");
+    check(linguastel_trace_table(bytes, calls, 0, cells, LINGUASTEL_E_OK) == 0, "a table without calls");
+    check(linguastel_trace_table(NULL, NULL, 0, NULL, LINGUASTEL_E_OK) == 0, "a table without calls, at no address");
+    check(all_are(bytes, sizeof bytes, 0xa5), "nothing is written of such a table");
+}
+
+static uint32_t word_at(const uint8_t *bytes, size_t place)
+{
+    return bytes[place] | (uint32_t)bytes[place + 1] << 8 | (uint32_t)bytes[place + 2] << 16 | (uint32_t)bytes[place + 3] << 24;
+}
+
+/* Item 3's table of bytes, read. */
+static LinguastelCall call_in(const uint8_t *bytes)
+{
+    return (LinguastelCall){
+        .number = bytes[0],
+        .caller = bytes[1],
+        .locked = bytes[2] & 1,
+        .disabled = bytes[2] & 2,
+        .object = bytes[3],
+        .value = word_at(bytes, 4),
+        .tmout = (int32_t)word_at(bytes, 8),
+        .attribute = word_at(bytes, 12),
+    };
+}
+
+static bool is_answer_in(const uint8_t *bytes, LinguastelAnswer answer)
+{
+    uint32_t code_or_place = answer.kind == LINGUASTEL_FINISHED ? (uint32_t)answer.code : answer.place;
+    bool spare_are_zero = bytes[17] == 0 && bytes[18] == 0 && bytes[19] == 0 && bytes[31] == 0;
+    return bytes[16] == answer.kind && word_at(bytes, 20) == code_or_place && word_at(bytes, 24) == answer.a && bytes[28] == answer.b
+        && (uint32_t)(bytes[29] | bytes[30] << 8) == answer.c && spare_are_zero;
+}
+
+/* What calls were recorded, and what became of them. */
+typedef struct {
+    LinguastelRecord record;
+    unsigned calls;
+    unsigned accepted[LINGUASTEL_LAST_CALL + 1];
+    unsigned waits;
+} Replay;
+
+static void replay(Replay *to, const uint8_t *bytes, size_t size)
+{
+    for (size_t at = 0; at < size; at += LINGUASTEL_TRACE_SIZE) {
+        LinguastelCall call = call_in(bytes + at);
+        check(call.number <= LINGUASTEL_LAST_CALL && bytes[at + 2] < 4, "a known call with known flags");
+        LinguastelAnswer answer = linguastel_call(&to->record, call);
+        check(is_answer_in(bytes + at, answer), "the replay answers what was recorded");
+        to->calls++;
+        to->waits += answer.kind == LINGUASTEL_WAITS;
+        to->accepted[call.number] += answer.kind == LINGUASTEL_FINISHED && answer.code == LINGUASTEL_E_OK;
+    }
+}
+
+/* At times numbers that are wider than their bytes in a trace, or that nobody has. */
+static LinguastelCall random_wide_call(void)
+{
+    static const uint32_t yes[] = { 1, 2, 256, 65536, 2147483648, 4294967295 };
+    LinguastelCall call = random_call();
+    call.number = noise_below(64) == 0 ? no_calls[noise_below(LENGTH(no_calls))] : call.number;
+    call.caller = noise_below(16) == 0 ? too_large[noise_below(LENGTH(too_large))] : call.caller;
+    call.object = noise_below(16) == 0 ? too_large[noise_below(LENGTH(too_large))] : call.object;
+    call.locked = noise_below(32) == 0 ? yes[noise_below(LENGTH(yes))] : 0;
+    call.disabled = noise_below(32) == 0 ? yes[noise_below(LENGTH(yes))] : 0;
+    call.value = noise_below(8) == 0 ? noise() : call.value;
+    call.tmout = noise_below(16) == 0 ? (int32_t)noise() : call.tmout;
+    return call;
+}
+
+/* Calls by themselves, from time to time a table, and at times one with too few cells: from the empty record, recorded and replayed. */
+static void test_random_traces(void)
+{
+    static uint8_t bytes[MOST_CALLS * LINGUASTEL_TRACE_SIZE];
+    static Replay twin;
+    LinguastelRecord record;
+    Table table = { .call_count = 0 }, before;
+    linguastel_empty(&record);
+    linguastel_empty(&twin.record);
+    while (twin.calls < 20000) {
+        LinguastelCall call = random_wide_call();
+        LinguastelAnswer answer = linguastel_call(&record, call);
+        replay(&twin, bytes, linguastel_trace(bytes, call, answer));
+        if (noise_below(32) == 0) {
+            make_random_table(&table);
+            table.cell_count -= noise_below(4) == 0 ? table.cell_count / 2 : 0;
+            int32_t code = hand_over(&record, &table, &before);
+            replay(&twin, bytes, linguastel_trace_table(bytes, table.calls, table.call_count, table.cells, code));
+        }
+    }
+    check(same_record(&record, &twin.record), "the record of the replay");
+    for (size_t number = 0; number < LENGTH(twin.accepted); number++) {
+        check(twin.accepted[number] > 0, "a call of each number is accepted");
+    }
+    check(twin.waits > 0, "calls wait");
+}
+
 /* ---- All groups ---- */
 
 static const struct {
@@ -1392,6 +1605,10 @@ static const struct {
     { "the sixteen runs of document 01", test_sixteen_runs },
     { "each call, accepted", test_each_call },
     { "the error table", test_error_table },
+    { "the bytes of recorded calls", test_trace_bytes },
+    { "the bytes of a tick", test_trace_tick },
+    { "the bytes of a table", test_trace_table },
+    { "random calls, recorded and replayed", test_random_traces },
 };
 
 int main(int count, char **arguments)

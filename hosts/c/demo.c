@@ -1,6 +1,6 @@
 /*
  * A host in C: the import tasks of two carriers hand over bursts of words, each in a table of calls. One carrier's file swells; the other carrier's words
- * arrive all the same.
+ * arrive all the same. `demo FILE` records the calls of this story too: the file is their trace.
  */
 #include <inttypes.h>
 #include <stdio.h>
@@ -43,6 +43,7 @@ static const enum event plan[STEPS] = { [1] = A_READS, [6] = A_IS_RELEASED, [8] 
 
 typedef struct {
     LinguastelRecord record;
+    FILE *trace; /* null where calls aren't recorded */
     uint32_t element; /* of carrier A's file, to be sent next; it is its own number */
     bool a_waits;
     bool a_stopped;
@@ -61,14 +62,40 @@ static uint64_t elements_of_a(void)
     return elements;
 }
 
+/* ---- Calls: all of them pass here, so that each is recorded ---- */
+
+static void keep(Host *host, const uint8_t *bytes, size_t size)
+{
+    if (host->trace != NULL) {
+        fwrite(bytes, 1, size, host->trace);
+    }
+}
+
+static LinguastelAnswer make(Host *host, LinguastelCall call)
+{
+    uint8_t bytes[LINGUASTEL_TRACE_SIZE];
+    LinguastelAnswer answer = linguastel_guarded_call(&host->record, call);
+    keep(host, bytes, linguastel_trace(bytes, call, answer));
+    return answer;
+}
+
+static int32_t make_table(Host *host, const LinguastelCall *calls, LinguastelAnswer *answers, size_t count)
+{
+    uint8_t bytes[LINGUASTEL_TABLE * LINGUASTEL_TRACE_SIZE];
+    int32_t code = linguastel_guarded_table(&host->record, calls, count, answers, count);
+    keep(host, bytes, linguastel_trace_table(bytes, calls, count, answers, code));
+    return code;
+}
+
+/* A trace starts at the empty record. */
 static void start(Host *host)
 {
     linguastel_empty(&host->record);
     for (uint32_t task = 1; task <= LAST_TASK; task++) {
-        linguastel_idefine_task(&host->record, task, PRIORITY);
+        make(host, (LinguastelCall){ .number = LINGUASTEL_DEFINE_TASK, .object = task, .value = PRIORITY });
     }
     for (uint32_t queue = 1; queue <= LAST_QUEUE; queue++) {
-        linguastel_icre_dtq(&host->record, queue, LINGUASTEL_TA_TFIFO, CAPACITY);
+        make(host, (LinguastelCall){ .number = LINGUASTEL_CRE_DTQ, .object = queue, .attribute = LINGUASTEL_TA_TFIFO, .value = CAPACITY });
     }
     host->element = 1;
 }
@@ -125,7 +152,7 @@ static size_t hand_over(Host *host, const char *who, uint32_t task, uint32_t que
     for (size_t i = 0; i < count; i++) {
         calls[i] = (LinguastelCall){ .number = LINGUASTEL_PSND_DTQ, .caller = task, .object = queue, .value = words[i] };
     }
-    int32_t code = linguastel_guarded_table(&host->record, calls, count, answers, count);
+    int32_t code = make_table(host, calls, answers, count);
     size_t accepted = 0;
     while (code == LINGUASTEL_E_OK && accepted < count && is_ok(answers[accepted])) {
         accepted++;
@@ -143,7 +170,7 @@ static void b_imports(Host *host, size_t step)
 
 static void b_reads(Host *host)
 {
-    LinguastelAnswer answer = linguastel_prcv_dtq(&host->record, linguastel_as_task(B_READER), B_QUEUE);
+    LinguastelAnswer answer = make(host, (LinguastelCall){ .number = LINGUASTEL_PRCV_DTQ, .caller = B_READER, .object = B_QUEUE });
     if (is_ok(answer)) {
         host->b_received[host->b_count++] = answer.a;
     }
@@ -152,7 +179,7 @@ static void b_reads(Host *host)
 static void a_reads(Host *host)
 {
     for (int taken = 0; taken < A_TAKES; taken++) {
-        LinguastelAnswer answer = linguastel_prcv_dtq(&host->record, linguastel_as_task(A_READER), A_QUEUE);
+        LinguastelAnswer answer = make(host, (LinguastelCall){ .number = LINGUASTEL_PRCV_DTQ, .caller = A_READER, .object = A_QUEUE });
         say("A's reader, prcv_dtq", answer);
         host->a_received += is_ok(answer);
     }
@@ -167,10 +194,10 @@ static void happen(Host *host, enum event event)
         a_reads(host);
         break;
     case A_IS_RELEASED:
-        say("handler, rel_wai of A's import task", linguastel_irel_wai(&host->record, A_IMPORT));
+        say("handler, rel_wai of A's import task", make(host, (LinguastelCall){ .number = LINGUASTEL_REL_WAI, .object = A_IMPORT }));
         break;
     case A_IS_DELETED:
-        say("operator, del_dtq of A's queue", linguastel_del_dtq(&host->record, linguastel_as_task(OPERATOR), A_QUEUE));
+        say("operator, del_dtq of A's queue", make(host, (LinguastelCall){ .number = LINGUASTEL_DEL_DTQ, .caller = OPERATOR, .object = A_QUEUE }));
         break;
     }
 }
@@ -178,7 +205,7 @@ static void happen(Host *host, enum event event)
 /* The import task is able again and learns how its wait ended. Gives whether it got room; else its element was withdrawn. */
 static bool a_got_room(Host *host)
 {
-    LinguastelAnswer ended = linguastel_fetch(&host->record, linguastel_as_task(A_IMPORT), A_IMPORT);
+    LinguastelAnswer ended = make(host, (LinguastelCall){ .number = LINGUASTEL_FETCH, .caller = A_IMPORT, .object = A_IMPORT });
     say("A's import task, fetch", ended);
     host->element += is_ok(ended);
     return is_ok(ended);
@@ -196,13 +223,14 @@ static void a_hands_over(Host *host)
 /* Hands over a burst where there may be room, then waits with the first element that was refused. */
 static void a_imports(Host *host)
 {
-    if (host->a_stopped || linguastel_ilook(&host->record, A_IMPORT).a != LINGUASTEL_NO_WAIT) {
+    if (host->a_stopped || make(host, (LinguastelCall){ .number = LINGUASTEL_LOOK, .object = A_IMPORT }).a != LINGUASTEL_NO_WAIT) {
         return;
     }
     if (!host->a_waits || a_got_room(host)) {
         a_hands_over(host);
     }
-    LinguastelAnswer answer = linguastel_tsnd_dtq(&host->record, linguastel_as_task(A_IMPORT), A_QUEUE, host->element, A_TMOUT);
+    LinguastelCall send = { .number = LINGUASTEL_TSND_DTQ, .caller = A_IMPORT, .object = A_QUEUE, .value = host->element, .tmout = A_TMOUT };
+    LinguastelAnswer answer = make(host, send);
     char what[64];
     snprintf(what, sizeof what, "A's import task, tsnd_dtq of element %" PRIu32, host->element);
     say(what, answer);
@@ -230,8 +258,8 @@ static void draw_queue(LinguastelAnswer reference)
 static void draw(Host *host)
 {
     printf("%4" PRIu32, host->record.counter);
-    draw_queue(linguastel_iref_dtq(&host->record, A_QUEUE));
-    draw_queue(linguastel_iref_dtq(&host->record, B_QUEUE));
+    draw_queue(make(host, (LinguastelCall){ .number = LINGUASTEL_REF_DTQ, .object = A_QUEUE }));
+    draw_queue(make(host, (LinguastelCall){ .number = LINGUASTEL_REF_DTQ, .object = B_QUEUE }));
     printf("  %2" PRIu32 ", %zu\n", host->a_received, host->b_count);
 }
 
@@ -239,7 +267,7 @@ static void draw(Host *host)
 
 static void tick(Host *host)
 {
-    LinguastelAnswer ticked = linguastel_guarded_tick(&host->record);
+    LinguastelAnswer ticked = make(host, (LinguastelCall){ .number = LINGUASTEL_TICK });
     if (ticked.a != 0) {
         say("tick, waits that it ended", ticked);
     }
@@ -266,24 +294,54 @@ static bool b_arrived_in_order(const Host *host)
     return same;
 }
 
-int main(void)
+static void tell(Host *host)
 {
-    static Host host;
-    printf("In five lines: a task sent 42, a handler received %" PRIu32 ".\n\n", five_lines(&host.record).a);
-
-    start(&host);
     printf("Carrier A's file has %d lines. Each but the first stands for %d of the line before it: ", A_LINES, A_COPIES);
     printf("%" PRIu64 " elements.\n", elements_of_a());
     printf("Carrier B's file has %d words. Each carrier has a data queue of %d words, an import task and a reader. # is a stored word.\n", STEPS, CAPACITY);
     printf("A burst is one table of calls: %d elements of A, or %d words of B. What a full queue refuses stays with the import task.\n", A_BURST, B_BURST);
     printf("A then sends the first of that with tmout %d: what nobody takes is given up in tick %d after the call.\n\n", A_TMOUT, A_TMOUT + 1);
     printf("tick  A's queue                B's queue                received: A, B\n");
-    play(&host);
+    play(host);
+}
 
-    bool in_order = b_arrived_in_order(&host);
-    bool sound = linguastel_guarded_sound(&host.record);
-    printf("\nCarrier A: %" PRIu32 " of %" PRIu64 " elements accepted, %" PRIu32 " received.\n", host.element - 1, elements_of_a(), host.a_received);
-    printf("Carrier B: %zu of %d words received, %s.\n", host.b_count, STEPS, in_order ? "in order" : "not in order");
+/* Whether all is as it should be. */
+static bool sum_up(const Host *host)
+{
+    bool in_order = b_arrived_in_order(host);
+    bool sound = linguastel_guarded_sound(&host->record);
+    printf("\nCarrier A: %" PRIu32 " of %" PRIu64 " elements accepted, %" PRIu32 " received.\n", host->element - 1, elements_of_a(), host->a_received);
+    printf("Carrier B: %zu of %d words received, %s.\n", host->b_count, STEPS, in_order ? "in order" : "not in order");
     printf("The record is %s.\n", sound ? "sound" : "not sound");
-    return in_order && sound ? 0 : 1;
+    return in_order && sound;
+}
+
+/* Whether the trace was written, where there is to be one. */
+static bool close_trace(Host *host)
+{
+    if (host->trace == NULL) {
+        return true;
+    }
+    bool failed = ferror(host->trace) != 0;
+    failed |= fclose(host->trace) != 0;
+    if (failed) {
+        fprintf(stderr, "the trace can't be written\n");
+    }
+    return !failed;
+}
+
+int main(int count, char **arguments)
+{
+    static Host host;
+    printf("In five lines: a task sent 42, a handler received %" PRIu32 ".\n\n", five_lines(&host.record).a);
+
+    host.trace = count > 1 ? fopen(arguments[1], "wb") : NULL;
+    if (count > 1 && host.trace == NULL) {
+        perror(arguments[1]);
+        return 1;
+    }
+    start(&host);
+    tell(&host);
+    bool right = sum_up(&host);
+    return close_trace(&host) && right ? 0 : 1;
 }

@@ -1,6 +1,6 @@
 /*
- * Linguastel for hosts in C11: the state record, the 23 calls, the tick, and tables of calls. Documents 01 and 02 say what each of them does; their words
- * are used here.
+ * Linguastel for hosts in C11: the state record, the 23 calls, the tick, tables of calls, and the recording of calls. Documents 01 and 02 say what each of
+ * them does; their words are used here.
  *
  * The library is two archives, for x86-64 and the System V calling convention. `rt staticlib linguastel` proves and writes
  * target/staticlib/liblinguastel.a, `rt staticlib linguastel_table` target/staticlib/liblinguastel_table.a. Link the second too where linguastel_table,
@@ -39,6 +39,7 @@ enum {
     LINGUASTEL_LONGEST_TMOUT = 2147483646, /* in ticks of 1 ms */
     LINGUASTEL_FOREVER = -1, /* the tmout that waits without end */
     LINGUASTEL_TABLE = 64, /* the most calls of a table */
+    LINGUASTEL_TRACE_SIZE = 32, /* the bytes of one call with its answer in a trace */
     LINGUASTEL_RECORD_SIZE = 2232,
     LINGUASTEL_RECORD_ALIGN = 4
 };
@@ -425,6 +426,73 @@ static inline const char *linguastel_code_name(int32_t code)
     case LINGUASTEL_E_DLT: return "E_DLT";
     default: return "no code of the kernel";
     }
+}
+
+/* ---- Recording calls: traces, which the replay program reads (document 02, item 3) ---- */
+
+/* A trace has LINGUASTEL_TRACE_SIZE bytes for each call with its answer, and nothing else. It starts at the empty record. */
+
+static inline uint32_t linguastel_at_most(uint32_t limit, uint32_t number)
+{
+    return number < limit ? number : limit;
+}
+
+/*
+ * Writes the bytes of a call with its answer, and gives how many of them belong in the trace: all, or 0 where the call is left out. So this line records
+ * a call, a tick, or a call of a table that was answered E_OK:
+ *
+ *     fwrite(bytes, 1, linguastel_trace(bytes, call, answer), file);
+ *
+ * Left out are the calls that step 0 refuses: a number above 23, and number 0 in a table. They change nothing, and the replay can't make them: it counts
+ * the first as differing, and the second would be a tick. Where number 0 is answered E_PAR it was in a table, since no tick gives E_PAR. The bytes are
+ * written even so, a table's number 0 as 255: if a host keeps them, the replay counts the call as differing and makes no tick of it.
+ *
+ * A number above the largest of its bytes is written as that. For caller and object nothing is lost: the kernel reads a number from 255 on as 255. Of
+ * the kernel's answers, b is at most 64 (ref_mbx, a message) and c at most 16 (ref_dtq, the stored count). If another answer is handed in, the largest
+ * number makes it differ in the replay; cut down to its low bits, it could have looked like the kernel's. For the same reason the words of an answer
+ * that waits are written as they come; the kernel's are 0.
+ *
+ * The bytes are the same on a host of either byte order.
+ */
+static inline size_t linguastel_trace(uint8_t bytes[LINGUASTEL_TRACE_SIZE], LinguastelCall call, LinguastelAnswer answer)
+{
+    bool finished = answer.kind == LINGUASTEL_FINISHED;
+    bool no_tick = call.number == LINGUASTEL_TICK && finished && answer.code == LINGUASTEL_E_PAR;
+    uint32_t number = no_tick ? UINT8_MAX : linguastel_at_most(UINT8_MAX, call.number);
+    uint32_t flags = (call.locked != 0 ? 1u : 0u) + (call.disabled != 0 ? 2u : 0u);
+    const uint32_t words[LINGUASTEL_TRACE_SIZE / 4] = {
+        number | linguastel_at_most(UINT8_MAX, call.caller) << 8 | flags << 16 | linguastel_at_most(UINT8_MAX, call.object) << 24,
+        call.value,
+        (uint32_t)call.tmout,
+        call.attribute,
+        linguastel_at_most(UINT8_MAX, answer.kind),
+        finished ? (uint32_t)answer.code : answer.place,
+        answer.a,
+        linguastel_at_most(UINT8_MAX, answer.b) | linguastel_at_most(UINT16_MAX, answer.c) << 8,
+    };
+    for (size_t i = 0; i < LINGUASTEL_TRACE_SIZE; i++) {
+        bytes[i] = (uint8_t)(words[i / 4] >> 8 * (i % 4));
+    }
+    return number > LINGUASTEL_LAST_CALL ? 0 : LINGUASTEL_TRACE_SIZE;
+}
+
+static inline size_t linguastel_trace_tick(uint8_t bytes[LINGUASTEL_TRACE_SIZE], LinguastelAnswer answer)
+{
+    return linguastel_trace(bytes, (LinguastelCall){ .number = LINGUASTEL_TICK }, answer);
+}
+
+/*
+ * The same for a table of calls with its code. Gives how many bytes belong in the trace: those of the calls in a row; 0 where the code isn't E_OK, because
+ * none of the calls was made then. There must be room for LINGUASTEL_TRACE_SIZE bytes a call; a host with less records the calls one by one.
+ */
+static inline size_t linguastel_trace_table(
+    uint8_t *bytes, const LinguastelCall *calls, size_t call_count, const LinguastelAnswer *answers, int32_t code)
+{
+    size_t size = 0;
+    for (size_t i = 0; code == LINGUASTEL_E_OK && i < call_count; i++) {
+        size += linguastel_trace(bytes + size, calls[i], answers[i]);
+    }
+    return size;
 }
 
 /* ---- The calls by name ---- */

@@ -1,5 +1,5 @@
-//! Linguastel for hosts in Rust: the state record, the 23 calls, the tick, and tables of calls. Documents 01 and 02 say what each of them does; their
-//! words are used here.
+//! Linguastel for hosts in Rust: the state record, the 23 calls, the tick, tables of calls, and the recording of calls. Documents 01 and 02 say what
+//! each of them does; their words are used here.
 //!
 //! The library is two archives: `rt staticlib linguastel` proves and writes target/staticlib/liblinguastel.a, `rt staticlib linguastel_table`
 //! target/staticlib/liblinguastel_table.a, which has the function behind [`Record::table`] alone. This crate links both. With cargo, build.rs finds
@@ -11,6 +11,7 @@
 //! before it left it, and the context is true.
 #![no_std]
 
+use core::array::from_fn;
 use core::mem::{align_of, offset_of, size_of};
 
 // ── Sizes and names ──
@@ -30,6 +31,8 @@ pub const LONGEST_TMOUT: i32 = 2_147_483_646;
 pub const FOREVER: i32 = -1;
 /// The most calls of a table.
 pub const TABLE: usize = 64;
+/// The bytes of one call with its answer in a trace.
+pub const TRACE_SIZE: usize = 32;
 
 pub const E_OK: i32 = 0;
 pub const E_SYS: i32 = -5;
@@ -96,6 +99,7 @@ pub mod number {
     pub const RSM_TSK: u32 = 21;
     pub const LOOK: u32 = 22;
     pub const FETCH: u32 = 23;
+    pub const LAST: u32 = FETCH;
 }
 
 // ── The record ──
@@ -236,6 +240,9 @@ pub struct Call {
 }
 
 impl Call {
+    /// The tick has no context.
+    pub const TICK: Call = Call { number: number::TICK, caller: 0, locked: 0, disabled: 0, object: 0, value: 0, tmout: 0, attribute: 0 };
+
     /// A call with its context and the object that it names; the other fields are 0.
     #[inline]
     pub fn new(number: u32, context: Context, object: u32) -> Call {
@@ -375,7 +382,7 @@ impl Record {
     /// The tick has no context. It is no function of the library: one that called the step from a second place would make both dearer.
     #[inline]
     pub fn tick(&mut self) -> Answer {
-        self.call(Call { number: number::TICK, ..Call::default() })
+        self.call(Call::TICK)
     }
 
     /// A table of calls in one go. E_OK: the calls were made first to last, and the answer to `calls[i]` is in `answers[i]`. Answers and record are
@@ -391,6 +398,57 @@ impl Record {
         // function writes the record and the answers alone. Any bytes, any calls and any lengths will do.
         unsafe { linguastel_table(self, calls.as_ptr(), calls.len(), answers.as_mut_ptr(), answers.len()) }
     }
+}
+
+// ── Recording calls: traces, which the replay program reads (document 02, item 3) ──
+
+// A trace has TRACE_SIZE bytes for each call with its answer, and nothing else. It starts at the empty record.
+
+impl Call {
+    /// The bytes of the call with its answer, or nothing where the call is left out. So this line records a call, a tick (`Call::TICK`), or a call of a
+    /// table that was answered E_OK:
+    ///
+    /// `trace.extend(call.trace(answer).into_iter().flatten());`
+    ///
+    /// Left out are the calls that step 0 refuses: a number above 23, and number 0 in a table. They change nothing, and the replay can't make them: it
+    /// counts the first as differing, and the second would be a tick. Where number 0 is answered E_PAR it was in a table, since no tick gives E_PAR.
+    ///
+    /// A number above the largest of its bytes is written as that. For caller and object nothing is lost: the kernel reads a number from 255 on as 255.
+    /// Of the kernel's answers, b is at most 64 (ref_mbx, a message) and c at most 16 (ref_dtq, the stored count). If another answer is handed in, the
+    /// largest number makes it differ in the replay; cut down to its low bits, it could have looked like the kernel's. For the same reason the words of
+    /// an answer that waits are written as they come; the kernel's are 0.
+    ///
+    /// The bytes are the same on a host of either byte order.
+    pub fn trace(self, answer: Answer) -> Option<[u8; TRACE_SIZE]> {
+        let outcome = answer.outcome();
+        let no_tick = self.number == number::TICK && outcome == Outcome::Finished(E_PAR);
+        if no_tick || self.number > number::LAST {
+            return None;
+        }
+        let byte = |number: u32| number.min(u8::MAX.into());
+        let flags = u32::from(self.locked != 0) + 2 * u32::from(self.disabled != 0);
+        let words: [u32; TRACE_SIZE / 4] = [
+            self.number | byte(self.caller) << 8 | flags << 16 | byte(self.object) << 24,
+            self.value,
+            self.tmout as u32,
+            self.attribute,
+            byte(answer.kind),
+            match outcome {
+                Outcome::Finished(code) => code as u32,
+                Outcome::Waits(place) => place,
+            },
+            answer.a,
+            byte(answer.b) | answer.c.min(u16::MAX.into()) << 8,
+        ];
+        Some(from_fn(|i| words[i / 4].to_le_bytes()[i % 4]))
+    }
+}
+
+/// The same for a table of calls with its code: the bytes of its calls in a row; nothing where the code isn't E_OK, because none of the calls was made
+/// then.
+pub fn trace_table<'a>(calls: &'a [Call], answers: &'a [Answer], code: i32) -> impl Iterator<Item = [u8; TRACE_SIZE]> + 'a {
+    let made = if code == E_OK { calls.len() } else { 0 };
+    calls.iter().zip(answers).take(made).filter_map(|(call, answer)| call.trace(*answer))
 }
 
 /// The calls by name.

@@ -1,7 +1,7 @@
 //! Tests the boundary between a host in Rust and the library: the layout, bad numbers, records that aren't sound, what calls write, tables of calls,
-//! and hosts/runs through the wrapper. hosts/c/boundary.c is the same for C. A null or misaligned pointer is no `&mut Record` and no slice; noise in
-//! all unused fields, and tables at the edge of a page, are left to the test in C. Every byte of a record or an answer belongs to a field, so `==`
-//! compares all of them.
+//! hosts/runs through the wrapper, and the recording of calls. hosts/c/boundary.c is the same for C. A null or misaligned pointer is no `&mut Record`
+//! and no slice; noise in all unused fields, and tables at the edge of a page, are left to the test in C. Every byte of a record or an answer belongs
+//! to a field, so `==` compares all of them.
 use linguastel::*;
 use std::array::from_fn;
 use std::collections::BTreeSet;
@@ -94,6 +94,30 @@ impl Noise {
 
     fn table(&mut self) -> Vec<Call> {
         (0..self.below(TABLE as u32 + 1)).map(|_| self.call_of_table()).collect()
+    }
+
+    /// The number, or one time in so many one of the list.
+    fn or_of(&mut self, number: u32, times: u32, list: &[u32]) -> u32 {
+        if self.below(times) == 0 {
+            list[self.below(list.len() as u32) as usize]
+        } else {
+            number
+        }
+    }
+
+    /// At times numbers that are wider than their bytes in a trace, or that nobody has.
+    fn wide_call(&mut self) -> Call {
+        let (call, any) = (self.call(), self.word());
+        Call {
+            number: self.or_of(call.number, 64, &NO_CALLS),
+            caller: self.or_of(call.caller, 16, &TOO_LARGE),
+            locked: self.or_of(0, 32, &YES),
+            disabled: self.or_of(0, 32, &YES),
+            object: self.or_of(call.object, 16, &TOO_LARGE),
+            value: self.or_of(call.value, 8, &[any]),
+            tmout: self.or_of(call.tmout as u32, 16, &[any]) as i32,
+            attribute: call.attribute,
+        }
     }
 }
 
@@ -281,10 +305,12 @@ fn unknown_numbers() {
     }
 }
 
+const YES: [u32; 6] = [1, 2, 256, 65536, 1 << 31, u32::MAX];
+
 #[test]
 fn locked_and_disabled_as_numbers() {
     let mut record = typical();
-    for yes in [1, 2, 256, 65536, 1 << 31, u32::MAX] {
+    for yes in YES {
         assert_eq!(record.call(Call { locked: yes, ..Call::new(number::REF_DTQ, Context::task(3), 1) }), refusal(E_CTX));
         assert_eq!(record.call(Call { disabled: yes, ..Call::new(number::RCV_DTQ, Context::task(3), 1) }), refusal(E_CTX));
     }
@@ -811,4 +837,111 @@ fn each_call() {
 #[test]
 fn error_table() {
     play(include_str!("../../runs/error_table.txt"), "11");
+}
+
+// ── Recording calls ──
+
+type Bytes = [u8; TRACE_SIZE];
+
+/// '16410343 44454647', and so on; a dash stands for a call that is left out.
+fn bytes_of(text: &str) -> Option<Bytes> {
+    let digits: String = text.split_whitespace().collect();
+    if digits == "-" {
+        return None;
+    }
+    assert_eq!(digits.len(), 2 * TRACE_SIZE, "{text}");
+    Some(from_fn(|i| u8::from_str_radix(&digits[2 * i..2 * i + 2], 16).unwrap()))
+}
+
+/// The same bytes as in C, which reads this file too.
+#[test]
+fn bytes_of_recorded_calls() {
+    let lines = include_str!("../../runs/trace_bytes.txt").lines().filter(|line| !line.is_empty() && !line.starts_with('#'));
+    let lines: Vec<&str> = lines.collect();
+    assert_eq!(lines.len(), 2 * 76);
+    for pair in lines.chunks(2) {
+        let fields: Vec<&str> = pair[0].split_whitespace().collect();
+        let [number, caller, locked, disabled, object, value, _, attribute, kind, _, place, a, b, c]: [u32; 14] =
+            from_fn(|i| if [6, 9].contains(&i) { 0 } else { fields[i].parse().unwrap() });
+        let (tmout, code) = (fields[6].parse().unwrap(), fields[9].parse().unwrap());
+        let call = Call { number, caller, locked, disabled, object, value, tmout, attribute };
+        assert_eq!(call.trace(Answer { kind, code, place, a, b, c }), bytes_of(pair[1]), "{call:?}");
+    }
+}
+
+#[test]
+fn bytes_of_a_tick() {
+    for answer in [refusal(E_OK), Answer { a: 32, ..Answer::default() }, refusal(E_SYS)] {
+        let bytes = Call::TICK.trace(answer).unwrap();
+        assert!(bytes[..16] == [0; 16] && is_answer_in(&bytes, answer), "{answer:?}");
+    }
+    assert_eq!(Call::TICK, Call::default());
+}
+
+/// The calls of a table in a row, without those of no call; nothing of a table that is refused.
+#[test]
+fn bytes_of_a_table() {
+    let calls = [by_handler(24, 0), Call { value: 5, ..by_handler(number::DEFINE_TASK, 1) }, Call::TICK, by_handler(number::LOOK, 1)];
+    let mut answers = [Answer::default(); 4];
+    let code = Record::empty().table(&calls, &mut answers);
+    assert!(trace_table(&calls, &answers, code).eq([1, 3].map(|i| calls[i].trace(answers[i]).unwrap())));
+    assert_eq!(trace_table(&calls, &answers, E_PAR).count() + trace_table(&calls, &answers, E_SYS).count(), 0);
+    assert_eq!(trace_table(&[], &answers, E_OK).count(), 0);
+}
+
+fn word_at(bytes: &Bytes, place: usize) -> u32 {
+    (0..4).map(|i| u32::from(bytes[place + i]) << (8 * i)).sum()
+}
+
+/// Item 3's table of bytes, read.
+fn call_in(bytes: &Bytes) -> Call {
+    Call {
+        number: bytes[0].into(),
+        caller: bytes[1].into(),
+        locked: (bytes[2] & 1).into(),
+        disabled: (bytes[2] & 2).into(),
+        object: bytes[3].into(),
+        value: word_at(bytes, 4),
+        tmout: word_at(bytes, 8) as i32,
+        attribute: word_at(bytes, 12),
+    }
+}
+
+fn is_answer_in(bytes: &Bytes, answer: Answer) -> bool {
+    let code_or_place = if answer.waits() { answer.place } else { answer.code as u32 };
+    let words = (word_at(bytes, 24), u32::from(bytes[28]), u32::from(bytes[29]) + 256 * u32::from(bytes[30]));
+    let spare = [bytes[17], bytes[18], bytes[19], bytes[31]];
+    (u32::from(bytes[16]), word_at(bytes, 20), words, spare) == (answer.kind, code_or_place, (answer.a, answer.b, answer.c), [0; 4])
+}
+
+/// Calls by themselves, from time to time a table, and at times one with too few cells: from the empty record.
+fn random_trace(noise: &mut Noise, record: &mut Record, count: usize) -> Vec<Bytes> {
+    let (mut trace, mut answers) = (Vec::new(), cells());
+    while trace.len() < count {
+        let call = noise.wide_call();
+        trace.extend(call.trace(record.call(call)));
+        if noise.below(32) == 0 {
+            let calls = noise.table();
+            let cell_count = if noise.below(4) == 0 { calls.len() / 2 } else { calls.len() };
+            let code = record.table(&calls, &mut answers[..cell_count]);
+            trace.extend(trace_table(&calls, &answers, code));
+        }
+    }
+    trace
+}
+
+#[test]
+fn random_calls_recorded_and_replayed() {
+    let (mut record, mut twin) = (Record::empty(), Record::empty());
+    let (mut accepted, mut waits) = (BTreeSet::new(), 0);
+    for bytes in random_trace(&mut noise(), &mut record, 20_000) {
+        let call = call_in(&bytes);
+        assert!(call.number <= number::LAST && bytes[2] < 4, "{bytes:?}");
+        let answer = twin.call(call);
+        assert!(is_answer_in(&bytes, answer), "{bytes:?}: {answer:?}");
+        accepted.extend(answer.is_ok().then_some(call.number));
+        waits += u32::from(answer.waits());
+    }
+    assert_eq!(record, twin);
+    assert!(accepted.into_iter().eq(number::TICK..=number::LAST) && waits > 0, "a call of each number is accepted, and calls wait");
 }

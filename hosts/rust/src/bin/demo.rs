@@ -1,5 +1,5 @@
-//! A host in Rust: the same story as hosts/c/demo.c, call for call, and the same output.
-use linguastel::{code_name, number, Answer, Call, Context, Outcome, Record, E_NOEXS, E_OK, NO_WAIT, TABLE, TA_TFIFO};
+//! A host in Rust: the same story as hosts/c/demo.c, call for call, the same output and, with a file's name, the same trace.
+use linguastel::{code_name, number, trace_table, Answer, Call, Context, Outcome, Record, E_NOEXS, E_OK, NO_WAIT, TABLE, TA_TFIFO};
 
 /// A host uses the kernel in five lines.
 fn five_lines() -> Answer {
@@ -42,6 +42,7 @@ const A_TAKES: u32 = 4;
 
 struct Host {
     record: Record,
+    trace: Vec<u8>,
     // Of carrier A's file, to be sent next; it is its own number.
     element: u32,
     a_waits: bool,
@@ -55,15 +56,17 @@ fn elements_of_a() -> u64 {
     A_COPIES.pow(A_LINES - 1)
 }
 
+// A trace starts at the empty record.
 fn start() -> Host {
-    let mut record = Record::empty();
+    let (record, trace, b_received) = (Record::empty(), Vec::new(), Vec::new());
+    let mut host = Host { record, trace, element: 1, a_waits: false, a_stopped: false, a_received: 0, b_received };
     for task in A_IMPORT..=OPERATOR {
-        record.idefine_task(task, PRIORITY);
+        host.make(Call { value: PRIORITY, ..Call::new(number::DEFINE_TASK, Context::HANDLER, task) });
     }
     for queue in A_QUEUE..=B_QUEUE {
-        record.icre_dtq(queue, TA_TFIFO, CAPACITY);
+        host.make(Call { attribute: TA_TFIFO, value: CAPACITY, ..Call::new(number::CRE_DTQ, Context::HANDLER, queue) });
     }
-    Host { record, element: 1, a_waits: false, a_stopped: false, a_received: 0, b_received: Vec::new() }
+    host
 }
 
 // ── What is printed of an answer ──
@@ -99,6 +102,20 @@ fn queue_text(reference: Answer) -> String {
 }
 
 impl Host {
+    // ── Calls: all of them pass here, so that each is recorded ──
+
+    fn make(&mut self, call: Call) -> Answer {
+        let answer = self.record.call(call);
+        self.trace.extend(call.trace(answer).into_iter().flatten());
+        answer
+    }
+
+    fn make_table(&mut self, calls: &[Call], answers: &mut [Answer]) -> i32 {
+        let code = self.record.table(calls, answers);
+        self.trace.extend(trace_table(calls, answers, code).flatten());
+        code
+    }
+
     // ── What is done in a step ──
 
     // A burst: a psnd_dtq for each word, all in one table. Gives how many were accepted: the first ones, since nobody receives meanwhile.
@@ -106,7 +123,7 @@ impl Host {
         let send = |word: &u32| Call { value: *word, ..Call::new(number::PSND_DTQ, Context::task(task), queue) };
         let calls: Vec<Call> = words.iter().map(send).collect();
         let mut answers = vec![Answer::default(); words.len()];
-        let code = self.record.table(&calls, &mut answers);
+        let code = self.make_table(&calls, &mut answers);
         let accepted = answers.iter().take_while(|answer| code == E_OK && answer.is_ok()).count();
         say_table(who, code, &answers, accepted);
         accepted
@@ -119,7 +136,7 @@ impl Host {
     }
 
     fn b_reads(&mut self) {
-        let answer = self.record.prcv_dtq(Context::task(B_READER), B_QUEUE);
+        let answer = self.make(Call::new(number::PRCV_DTQ, Context::task(B_READER), B_QUEUE));
         if answer.is_ok() {
             self.b_received.push(answer.a);
         }
@@ -127,7 +144,7 @@ impl Host {
 
     fn a_reads(&mut self) {
         for _ in 0..A_TAKES {
-            let answer = self.record.prcv_dtq(Context::task(A_READER), A_QUEUE);
+            let answer = self.make(Call::new(number::PRCV_DTQ, Context::task(A_READER), A_QUEUE));
             say("A's reader, prcv_dtq", answer);
             self.a_received += u32::from(answer.is_ok());
         }
@@ -137,15 +154,15 @@ impl Host {
     fn happen(&mut self, step: usize) {
         match step {
             1 => self.a_reads(),
-            6 => say("handler, rel_wai of A's import task", self.record.irel_wai(A_IMPORT)),
-            8 => say("operator, del_dtq of A's queue", self.record.del_dtq(Context::task(OPERATOR), A_QUEUE)),
+            6 => say("handler, rel_wai of A's import task", self.make(Call::new(number::REL_WAI, Context::HANDLER, A_IMPORT))),
+            8 => say("operator, del_dtq of A's queue", self.make(Call::new(number::DEL_DTQ, Context::task(OPERATOR), A_QUEUE))),
             _ => (),
         }
     }
 
     // The import task is able again and learns how its wait ended. Gives whether it got room; else its element was withdrawn.
     fn a_got_room(&mut self) -> bool {
-        let ended = self.record.fetch(Context::task(A_IMPORT), A_IMPORT);
+        let ended = self.make(Call::new(number::FETCH, Context::task(A_IMPORT), A_IMPORT));
         say("A's import task, fetch", ended);
         self.element += u32::from(ended.is_ok());
         ended.is_ok()
@@ -158,13 +175,14 @@ impl Host {
 
     // Hands over a burst where there may be room, then waits with the first element that was refused.
     fn a_imports(&mut self) {
-        if self.a_stopped || self.record.ilook(A_IMPORT).a != u32::from(NO_WAIT) {
+        if self.a_stopped || self.make(Call::new(number::LOOK, Context::HANDLER, A_IMPORT)).a != u32::from(NO_WAIT) {
             return;
         }
         if !self.a_waits || self.a_got_room() {
             self.a_hands_over();
         }
-        let answer = self.record.tsnd_dtq(Context::task(A_IMPORT), A_QUEUE, self.element, A_TMOUT);
+        let send = Call { value: self.element, tmout: A_TMOUT, ..Call::new(number::TSND_DTQ, Context::task(A_IMPORT), A_QUEUE) };
+        let answer = self.make(send);
         say(&format!("A's import task, tsnd_dtq of element {}", self.element), answer);
         self.element += u32::from(answer.is_ok());
         self.a_waits = answer.waits();
@@ -172,12 +190,12 @@ impl Host {
     }
 
     fn draw(&mut self) {
-        let (a, b) = (queue_text(self.record.iref_dtq(A_QUEUE)), queue_text(self.record.iref_dtq(B_QUEUE)));
+        let [a, b] = [A_QUEUE, B_QUEUE].map(|queue| queue_text(self.make(Call::new(number::REF_DTQ, Context::HANDLER, queue))));
         println!("{:4}  {a}  {b}  {:2}, {}", self.record.counter, self.a_received, self.b_received.len());
     }
 
     fn tick(&mut self) {
-        let ticked = self.record.tick();
+        let ticked = self.make(Call::TICK);
         if ticked.a != 0 {
             say("tick, waits that it ended", ticked);
         }
@@ -216,5 +234,9 @@ fn main() {
     println!("\nCarrier A: {} of {} elements accepted, {} received.", host.element - 1, elements_of_a(), host.a_received);
     println!("Carrier B: {} of {STEPS} words received, {}.", host.b_received.len(), if in_order { "in order" } else { "not in order" });
     println!("The record is {}.", if sound { "sound" } else { "not sound" });
-    std::process::exit(i32::from(!(in_order && sound)));
+    let kept = std::env::args().nth(1).map_or(Ok(()), |file| std::fs::write(file, &host.trace));
+    if let Err(error) = &kept {
+        eprintln!("the trace can't be written: {error}");
+    }
+    std::process::exit(i32::from(!(in_order && sound && kept.is_ok())));
 }

@@ -1,13 +1,13 @@
 // Holds the reference pages, docs/calls/*.md, against the built kernel, so that neither changes without the other.
 // `pages [FOLDER]` plays every example of the pages, compares names, numbers and the order of rows with document 01's tables and with the header
-// and the wrapper, and plays calls drawn at random to see which codes each call gives. It prints a line for each difference, with file and line,
+// and the wrapper, compares the bytes of recorded calls, and plays calls drawn at random to see which codes each call gives. It prints a line for each difference, with file and line,
 // and one for each page. It fails where anything differs. docs/calls/README.md has the examples' notation.
 use std::collections::BTreeSet;
 use std::fmt;
 use std::fs;
 use std::process::exit;
 
-use linguastel::{Call, Record};
+use linguastel::{trace_table, Call, Record, TRACE_SIZE};
 
 // ── The kernel ──
 
@@ -60,9 +60,11 @@ struct Sight {
     cause: &'static str,
 }
 
-// What was seen of each call: what it answered, and the codes that its waits ended with. The entry behind the calls is for unknown numbers.
+// What was seen of each call: what it answered, and the codes that its waits ended with. The entry behind the calls is for unknown numbers. What the
+// last call or table adds to a trace is kept too.
 #[derive(Default)]
 struct Seen {
+    recorded: Vec<[u8; TRACE_SIZE]>,
     calls: usize,
     answers: [BTreeSet<Sight>; CALLS.len() + 1],
     ends: [BTreeSet<Outcome>; CALLS.len() + 1],
@@ -82,14 +84,18 @@ impl Kernel {
     }
 
     fn call(&mut self, call: Call, seen: &mut Seen) -> Answer {
-        let answer = Answer::of(self.record.call(call));
+        let given = self.record.call(call);
+        let answer = Answer::of(given);
         self.note(&call, CALLS.len().min(call.number as usize), answer, seen);
+        seen.recorded.clear();
+        seen.recorded.extend(call.trace(given));
         answer
     }
 
     // A table of calls; gives its code. In a table number 0 is as unknown as those above 23.
     fn table(&mut self, calls: &[Call], cells: &mut [linguastel::Answer], seen: &mut Seen) -> Outcome {
         let code = self.record.table(calls, cells);
+        seen.recorded = trace_table(calls, cells, code).collect();
         for (call, cell) in calls.iter().zip(cells).filter(|_| code == linguastel::E_OK) {
             let number = if call.number == 0 { CALLS.len() } else { CALLS.len().min(call.number as usize) };
             self.note(call, number, Answer::of(*cell), seen);
@@ -232,6 +238,11 @@ const MOST_CALLS: usize = 64;
 const TABLE_LENGTHS: [(Outcome, usize, usize); 4] =
     [(E_OK, 0, 0), (E_OK, MOST_CALLS, MOST_CALLS), (E_PAR, MOST_CALLS + 1, MOST_CALLS + 1), (E_PAR, 1, 0)];
 const TABLE_NAMES: [&str; 3] = ["linguastel_table", "linguastel_guarded_table", "table"];
+
+// Document 02's trace: the fields in the order of their bytes, and the functions' names.
+const TRACE_FIELDS: [&str; 14] =
+    ["number", "caller", "locked", "disabled", "object", "value", "tmout", "attribute", "kind", "code", "place", "a", "b", "c"];
+const TRACE_NAMES: [&str; 5] = ["linguastel_trace", "linguastel_trace_tick", "linguastel_trace_table", "trace", "trace_table"];
 
 fn can_refuse(step: &str, call: usize) -> bool {
     match step {
@@ -502,6 +513,11 @@ impl Section {
         self.title == "table"
     }
 
+    // What is said of a trace.
+    fn is_of_traces(&self) -> bool {
+        self.title == "trace"
+    }
+
     // '4 snd_dtq' is a call's title.
     fn call(&self) -> Option<(usize, &str)> {
         let (number, name) = self.title.split_once(' ')?;
@@ -547,6 +563,52 @@ fn page_of(file: &str, text: &str) -> Page {
     Page { file: file.to_string(), sections }
 }
 
+impl Block {
+    // Whether lines of code are lines of the demo in that language, which hosts/check compiles and runs.
+    fn is_in_source(&self) -> bool {
+        let source = match self.kind.as_str() {
+            "c" => include_str!("../../../c/demo.c"),
+            "rust" => include_str!("demo.rs"),
+            _ => return true,
+        };
+        let source: Vec<&str> = source.lines().map(str::trim).collect();
+        let lines: Vec<&str> = self.lines.iter().map(|line| line.text.trim()).collect();
+        !lines.is_empty() && source.windows(lines.len()).any(|window| window == lines)
+    }
+}
+
+// The bytes of a recorded call, four to a group.
+fn bytes_in_text(bytes: &[u8; TRACE_SIZE]) -> String {
+    let groups = bytes.chunks(4).map(|group| group.iter().map(|byte| format!("{byte:02x}")).collect::<String>());
+    groups.collect::<Vec<String>>().join(" ")
+}
+
+// The bytes that a field of the call or of the answer changes in a trace.
+fn changed_by(field: &str) -> impl Iterator<Item = usize> {
+    let mut call = Call { number: 1, ..Call::TICK };
+    let mut answer = linguastel::Answer { kind: u32::from(field == "place"), ..Default::default() };
+    let before = call.trace(answer);
+    match field {
+        "number" => call.number = linguastel::number::LAST,
+        "caller" => call.caller = u32::MAX,
+        "locked" => call.locked = u32::MAX,
+        "disabled" => call.disabled = u32::MAX,
+        "object" => call.object = u32::MAX,
+        "value" => call.value = u32::MAX,
+        "tmout" => call.tmout = -1,
+        "attribute" => call.attribute = u32::MAX,
+        "kind" => answer.kind = 1,
+        "code" => answer.code = -1,
+        "place" => answer.place = u32::MAX,
+        "a" => answer.a = u32::MAX,
+        "b" => answer.b = u32::MAX,
+        "c" => answer.c = u32::MAX,
+        _ => {}
+    }
+    let after = call.trace(answer);
+    (0..TRACE_SIZE).filter(move |place| before.map(|bytes| bytes[*place]) != after.map(|bytes| bytes[*place]))
+}
+
 // What stands between backticks.
 fn quoted(text: &str) -> Vec<&str> {
     text.split('`').skip(1).step_by(2).collect()
@@ -568,6 +630,8 @@ const ENDS: [&str; 4] = ["The wait ends by", "Code", "Word", "Example"];
 const PARAMETERS: [&str; 3] = ["Parameter", "Field", "Values"];
 const CODE_LIST: [&str; 3] = ["Code", "Number", "Meaning"];
 const CALL_LIST: [&str; 3] = ["No.", "Call", "Page"];
+const TRACE_BYTES: [&str; 3] = ["Bytes", "Field", "Holds"];
+const TRACED: [&str; 4] = ["Recorded", "Code", "When", "Example"];
 
 struct Check {
     // The functions' names in the header and in the wrapper.
@@ -662,25 +726,31 @@ impl Check {
         played
     }
 
-    // Plays a worked example, in which every call has its answer behind an arrow. The lines of a table are indented.
+    // Plays a worked example, in which every call has its answer behind an arrow. The lines of a table are indented. In an example of a trace, the bytes
+    // that each step adds to it stand below the step, indented twice.
     fn play_block(&mut self, page: &Page, block: &Block) {
-        let mut kernel = self.setting;
+        let (mut kernel, of_trace) = (self.setting, block.kind == "trace");
         self.examples += 1;
         for lines in block.lines.chunk_by(|_, next| next.text.starts_with("  ")) {
             let (first, rest) = lines.split_first().expect("a chunk has a line");
+            let (bytes, rest): (Vec<&Line>, Vec<&Line>) = rest.iter().partition(|line| of_trace && line.text.starts_with("    "));
+            self.seen.recorded.clear();
             let played = match first.text.strip_prefix("table -> ") {
-                Some(code) => self.play_lines(&mut kernel, code, rest),
+                Some(code) => self.play_lines(&mut kernel, code, &rest),
                 None if rest.is_empty() => self.play_line(&mut kernel, &first.text),
                 None => Err("the lines below it belong to no table".to_string()),
             };
             if let Err(what) = played {
                 self.differs(page, first.at, &format!("'{}': {what}", first.text));
             }
+            let recorded: Vec<String> = self.seen.recorded.iter().map(bytes_in_text).collect();
+            let right = !of_trace || bytes.iter().map(|line| line.text.trim()).eq(&recorded);
+            self.expect(right, page, first.at, &format!("'{}' adds to a trace: {}", first.text, recorded.join(", ")));
         }
     }
 
     // A table with this code.
-    fn play_lines(&mut self, kernel: &mut Kernel, code: &str, lines: &[Line]) -> Result<(), String> {
+    fn play_lines(&mut self, kernel: &mut Kernel, code: &str, lines: &[&Line]) -> Result<(), String> {
         let table = CallTable::of(lines.iter().map(|line| line.text.as_str()))?;
         table.play(kernel, outcome_named(code)?, &mut self.seen)
     }
@@ -802,6 +872,52 @@ impl Check {
         }
     }
 
+    // The section on traces.
+    fn check_recording(&mut self, page: &Page, section: &Section) {
+        self.check_names(page, section, &TRACE_NAMES.map(String::from));
+        for kind in ["trace", "c", "rust"] {
+            self.expect(section.blocks.iter().any(|block| block.kind == kind), page, section.at, &format!("no example is one of '{kind}'"));
+        }
+        for block in &section.blocks {
+            let at = block.lines.first().map_or(section.at, |line| line.at);
+            self.expect(block.is_in_source(), page, at, "the demo has no such lines");
+        }
+        let (Some(bytes), Some(traced)) = (section.table(&TRACE_BYTES), section.table(&TRACED)) else {
+            return self.differs(page, section.at, "the table of bytes or that of recorded calls is missing");
+        };
+        self.check_bytes(page, section.at, bytes);
+        for row in &traced.rows {
+            let played = self.play_row(page, row, Check::play_recorded);
+            self.expect(played.iter().all(|records| records.to_string() == row.1[0]), page, row.0, "an example adds more or less to a trace");
+        }
+    }
+
+    // Every byte has a row, in order; every field is named, and changes the bytes of its row and no others.
+    fn check_bytes(&mut self, page: &Page, at: usize, table: &Table) {
+        let (mut next, mut named) = (0, vec![]);
+        for (at, cells) in &table.rows {
+            let (first, last) = cells[0].split_once(" to ").unwrap_or((&cells[0], &cells[0]));
+            let (Ok(first), Ok(last)) = (first.parse::<usize>(), last.parse::<usize>()) else {
+                return self.differs(page, *at, "the first column doesn't hold numbers of bytes");
+            };
+            let fields = quoted(&cells[1]);
+            self.expect(first == next && fields.iter().all(|field| changed_by(field).eq(first..=last)), page, *at, "these aren't the field's bytes");
+            next = last + 1;
+            named.extend(fields);
+        }
+        self.expect(next == TRACE_SIZE && named == TRACE_FIELDS, page, at, "a byte or a field is missing");
+    }
+
+    // An example whose last step is a call or a table. Gives how many records it adds to a trace.
+    fn play_recorded(&mut self, outcome: Outcome, text: &str) -> Result<usize, String> {
+        if text.rsplit(';').next().is_some_and(|last| last.trim().starts_with("table")) {
+            self.play_table_example(outcome, text)?;
+        } else {
+            self.play_example(outcome, text)?;
+        }
+        Ok(self.seen.recorded.len())
+    }
+
     // The table of checks that all calls share: every step, and no accepted call.
     fn check_table(&mut self, page: &Page, at: usize, table: &Table) {
         self.check_order(page, table, &STEPS, |_| false);
@@ -846,9 +962,10 @@ impl Check {
             match section.call() {
                 Some((call, name)) => self.check_call(page, section, call, name),
                 None if section.is_of_tables() => self.check_call_table(page, section),
+                None if section.is_of_traces() => self.check_recording(page, section),
                 None => self.check_common(page, section),
             }
-            for block in section.blocks.iter().filter(|block| block.kind == "calls") {
+            for block in section.blocks.iter().filter(|block| ["calls", "trace"].contains(&block.kind.as_str())) {
                 self.play_block(page, block);
             }
         }
@@ -999,8 +1116,8 @@ fn setting_of(pages: &[Page], seen: &mut Seen) -> Result<Kernel, String> {
     Ok(kernel)
 }
 
-// What differs on no page in particular: each call has one section and so have tables of calls, each common table is there once, an unknown number
-// gives E_PAR alone, and header and wrapper name the most calls of a table.
+// What differs on no page in particular: each call has one section and so have tables of calls and traces, each common table is there once, an unknown
+// number gives E_PAR alone, and header and wrapper name the most calls of a table and the bytes of a recorded call.
 fn differences(pages: &[Page], seen: &Seen) -> Vec<String> {
     let (calls, common): (Vec<&Section>, Vec<&Section>) = pages.iter().flat_map(|page| &page.sections).partition(|section| section.call().is_some());
     let sections = |call: usize| calls.iter().filter(|section| section.call().is_some_and(|found| found.0 == call)).count();
@@ -1016,6 +1133,12 @@ fn differences(pages: &[Page], seen: &Seen) -> Vec<String> {
     if common.iter().filter(|section| section.is_of_tables()).count() != 1 {
         found.push("the section 'table' isn't there once".to_string());
     }
+    if common.iter().filter(|section| section.is_of_traces()).count() != 1 {
+        found.push("the section 'trace' isn't there once".to_string());
+    }
+    if TRACE_SIZE != 32 || !HEADER.contains("LINGUASTEL_TRACE_SIZE = 32,") {
+        found.push("the header or the wrapper names another number of bytes for a recorded call than 32".to_string());
+    }
     if linguastel::TABLE != MOST_CALLS || !HEADER.contains(&format!("LINGUASTEL_TABLE = {MOST_CALLS},")) {
         found.push(format!("the header or the wrapper names another number of calls in a table than {MOST_CALLS}"));
     }
@@ -1025,11 +1148,11 @@ fn differences(pages: &[Page], seen: &Seen) -> Vec<String> {
 const HEADER: &str = include_str!("../../../c/linguastel.h");
 const WRAPPER: &str = include_str!("../lib.rs");
 
-// The functions that hosts call: those of the header, which give an answer or a code, and the wrapper's methods.
+// The functions that hosts call: those of the header, which give an answer, a code or a size, and the wrapper's.
 fn declared() -> BTreeSet<String> {
-    let in_c = HEADER.split("LinguastelAnswer ").skip(1).chain(HEADER.split("int32_t ").skip(1));
+    let in_c = ["LinguastelAnswer ", "int32_t ", "size_t "].into_iter().flat_map(|gives| HEADER.split(gives).skip(1));
     let in_rust = WRAPPER.split("pub fn ").skip(1);
-    in_c.chain(in_rust).filter_map(|text| text.split_once('(')).map(|(name, _)| name.to_string()).collect()
+    in_c.chain(in_rust).filter_map(|text| text.split_once(['(', '<'])).map(|(name, _)| name.to_string()).collect()
 }
 
 fn run(folder: &str) -> Result<bool, String> {
