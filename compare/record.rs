@@ -27,6 +27,19 @@ pub fn kernel_call(call: &Call) -> linguastel::Call {
     }
 }
 
+pub fn second_call(call: &linguastel::Call) -> Call {
+    Call {
+        number: call.number,
+        caller: call.caller,
+        locked: call.locked != 0,
+        disabled: call.disabled != 0,
+        object: call.object,
+        value: call.value,
+        tmout: call.tmout,
+        attribute: call.attribute,
+    }
+}
+
 /// The kernel's answer that is the same as this one. What a kind of answer doesn't have is 0 there.
 pub fn kernel_answer(answer: &Answer) -> linguastel::Answer {
     match *answer {

@@ -3,132 +3,23 @@
 //! status is 1 where the two programs aren't of one mind, in an answer or in a state.
 //! `trace --write FILE COUNT SEED [--counter N]` writes a trace of random calls with the second program's answers.
 //! `trace --write-damaged FILE COUNT SEED PERCENT` writes one of which so many of a hundred records are damaged, with a tail, and prints its line.
+//!
+//! Records are read, and the line is kept, by hosts/trace, which also shows a trace on the kernel alone.
 #![forbid(unsafe_code)]
-use comparison::record::{answer_in_words, kernel_answer, kernel_call, state_of};
+use comparison::record::{answer_in_words, kernel_answer, kernel_call, second_call, state_of};
 use linguastel::Record;
 use second::{random_call, random_trace_and_end, Answer, Call, Profile, Random, Reached, State};
-use std::fmt::{Display, Formatter};
 use std::process::ExitCode;
+use trace_tool::decode::{self, Recorded, SIZE};
+use trace_tool::play::{tail, Line};
+use trace_tool::words;
 
-// ── One record ──
-
-const SIZE: usize = 32;
-
-/// The answer as a record has it: code and place stand in the same field.
-#[derive(Clone, Copy, PartialEq)]
-struct Recorded {
-    kind: u8,
-    code_or_place: u32,
-    a: u32,
-    b: u8,
-    c: u16,
-}
-
-impl Recorded {
-    fn is(&self, answer: &linguastel::Answer) -> bool {
-        let code_or_place = if answer.kind == 0 { answer.code as u32 } else { answer.place };
-        let words = (self.a, u32::from(self.b), u32::from(self.c));
-        (u32::from(self.kind), self.code_or_place) == (answer.kind, code_or_place) && words == (answer.a, answer.b, answer.c)
-    }
-}
-
-impl Display for Recorded {
-    fn fmt(&self, to: &mut Formatter) -> std::fmt::Result {
-        if self.kind == 0 {
-            write!(to, "finished, code {}", self.code_or_place as i32)?;
-        } else {
-            write!(to, "waits, place {}", self.code_or_place)?;
-        }
-        write!(to, ", a {}, b {}, c {}", self.a, self.b, self.c)
-    }
-}
-
-fn word_at(bytes: &[u8], place: usize) -> u32 {
-    u32::from_le_bytes([bytes[place], bytes[place + 1], bytes[place + 2], bytes[place + 3]])
-}
-
-/// The call of a record and the answer that was recorded, or why the record isn't run.
-fn read(bytes: &[u8]) -> Result<(Call, Recorded), &'static str> {
-    let [number, caller, flags, object] = [bytes[0], bytes[1], bytes[2], bytes[3]];
-    if number > 23 {
-        return Err("unknown call");
-    }
-    if bytes[16] > 1 {
-        return Err("unknown kind");
-    }
-    if flags > 3 {
-        return Err("unknown flag");
-    }
-    if bytes[17..20] != [0; 3] || bytes[31] != 0 {
-        return Err("spare byte that isn't zero");
-    }
-    let call = Call {
-        number: number.into(),
-        caller: caller.into(),
-        locked: flags & 1 != 0,
-        disabled: flags & 2 != 0,
-        object: object.into(),
-        value: word_at(bytes, 4),
-        tmout: word_at(bytes, 8) as i32,
-        attribute: word_at(bytes, 12),
-    };
-    let (b, c) = (bytes[28], u16::from_le_bytes([bytes[29], bytes[30]]));
-    Ok((call, Recorded { kind: bytes[16], code_or_place: word_at(bytes, 20), a: word_at(bytes, 24), b, c }))
-}
-
-/// The record of a call and its answer; none where one of their numbers doesn't fit in its field.
+/// The record of a call and the second program's answer, as a host in Rust writes it; none for a call that the replay doesn't run.
 fn written(call: &Call, answer: &Answer) -> Option<[u8; SIZE]> {
-    let mut bytes = [0; SIZE];
-    bytes[0] = u8::try_from(call.number).ok()?;
-    bytes[1] = u8::try_from(call.caller).ok()?;
-    bytes[2] = u8::from(call.locked) + 2 * u8::from(call.disabled);
-    bytes[3] = u8::try_from(call.object).ok()?;
-    bytes[4..8].copy_from_slice(&call.value.to_le_bytes());
-    bytes[8..12].copy_from_slice(&call.tmout.to_le_bytes());
-    bytes[12..16].copy_from_slice(&call.attribute.to_le_bytes());
-    match *answer {
-        Answer::Finished { code, a, b, c } => {
-            bytes[20..24].copy_from_slice(&code.to_le_bytes());
-            bytes[24..28].copy_from_slice(&a.to_le_bytes());
-            bytes[28] = u8::try_from(b).ok()?;
-            bytes[29..31].copy_from_slice(&u16::try_from(c).ok()?.to_le_bytes());
-        }
-        Answer::Waits { place } => {
-            bytes[16] = 1;
-            bytes[20..24].copy_from_slice(&place.to_le_bytes());
-        }
-    }
-    Some(bytes)
+    kernel_call(call).trace(kernel_answer(answer))
 }
 
 // ── Playing a file ──
-
-/// The line of item 3.
-#[derive(Clone, Copy, Default, PartialEq, Debug)]
-struct Line {
-    records: u64,
-    differ: u64,
-    first: u64,
-    tail: u64,
-}
-
-impl Line {
-    fn count(&mut self, same: bool) {
-        self.records += 1;
-        if !same {
-            self.differ += 1;
-            if self.first == 0 {
-                self.first = self.records;
-            }
-        }
-    }
-}
-
-impl Display for Line {
-    fn fmt(&self, to: &mut Formatter) -> std::fmt::Result {
-        write!(to, "records {} differ {} first {} tail {}", self.records, self.differ, self.first, self.tail)
-    }
-}
 
 #[derive(Default)]
 struct Replay {
@@ -150,9 +41,9 @@ impl Programs {
         Programs { record: Record { counter, ..Record::empty() }, state: State::empty(counter) }
     }
 
-    fn play(&mut self, call: &Call) -> (linguastel::Answer, linguastel::Answer) {
-        let kernel = self.record.call(kernel_call(call));
-        (kernel, kernel_answer(&self.state.play(call, &mut Reached::default())))
+    fn play(&mut self, call: &linguastel::Call) -> (linguastel::Answer, linguastel::Answer) {
+        let kernel = self.record.call(*call);
+        (kernel, kernel_answer(&self.state.play(&second_call(call), &mut Reached::default())))
     }
 
     fn same_state(&self) -> bool {
@@ -163,19 +54,17 @@ impl Programs {
 fn replay(bytes: &[u8], counter: u32) -> Replay {
     let mut programs = Programs::empty(counter);
     let mut replay = Replay::default();
-    let records = bytes.chunks_exact(SIZE);
-    let tail = records.remainder().len() as u64;
-    for record in records {
-        play_record(record, &mut programs, &mut replay);
+    for record in bytes.chunks_exact(SIZE) {
+        play_record(record.try_into().expect("a chunk has the size of a record"), &mut programs, &mut replay);
     }
-    replay.kernel.tail = tail;
-    replay.second.tail = tail;
+    replay.kernel.tail = tail(bytes).len() as u64;
+    replay.second.tail = replay.kernel.tail;
     replay
 }
 
-fn play_record(bytes: &[u8], programs: &mut Programs, replay: &mut Replay) {
+fn play_record(bytes: &[u8; SIZE], programs: &mut Programs, replay: &mut Replay) {
     let number = replay.kernel.records + 1;
-    let (call, recorded) = match read(bytes) {
+    let Recorded { call, answer: recorded } = match decode::read(bytes) {
         Ok(read) => read,
         Err(why) => {
             replay.kernel.count(false);
@@ -186,17 +75,18 @@ fn play_record(bytes: &[u8], programs: &mut Programs, replay: &mut Replay) {
     };
     let (before, state) = (programs.record, programs.state.clone());
     let (kernel, second) = programs.play(&call);
-    replay.kernel.count(recorded.is(&kernel));
-    replay.second.count(recorded.is(&second));
+    replay.kernel.count(recorded == kernel);
+    replay.second.count(recorded == second);
     let same = kernel == second && programs.same_state();
-    if same && recorded.is(&kernel) {
+    if same && recorded == kernel {
         return;
     }
     let in_words = || {
         let answers = format!("kernel: {}\nsecond program: {}", answer_in_words(&kernel), answer_in_words(&second));
         let states = format!("state before, of the second program:\n{state}\nafter:\n{}", programs.state);
         let kernel_states = format!("state before, of the kernel:\n{}\nafter:\n{}", in_words_of(&before), in_words_of(&programs.record));
-        format!("record {number}: {call}\nrecorded: {recorded}\n{answers}\n{states}\n{kernel_states}")
+        let recorded = words::answer(call.number, &recorded);
+        format!("record {number}: {}\nrecorded: {recorded}\n{answers}\n{states}\n{kernel_states}", words::call(&call))
     };
     if !same {
         replay.apart.get_or_insert_with(in_words);
@@ -223,7 +113,7 @@ impl Writer {
 
     /// Plays the call and adds its record; adds nothing where the call doesn't fit into one.
     fn add(&mut self, call: &Call) -> bool {
-        if call.number > 23 || written(call, &Answer::refused(0)).is_none() {
+        if call.number > decode::LAST_CALL || written(call, &Answer::refused(0)).is_none() {
             return false;
         }
         let answer = self.state.play(call, &mut Reached::default());
