@@ -17,7 +17,8 @@ use Rattle.record.specs.declared.State.{State}
 use Rattle.record.specs.Meaning.{abs}
 use Rattle.record.specs.Sound.{Sound}
 use Rattle.record.specs.Step.{state-engine}
-use Rattle.tables.proofs.Made.{stays-sound, Ran}
+use Rattle.kernel.proofs.Outcomes.{stays-sound}
+use Rattle.tables.proofs.Made.{Ran}
 use Rattle.host_record.specs.declared.HostRecord.{HostRecord}
 use Rattle.host_record.specs.Record.{state-of, host-engine}
 use Rattle.host_record.specs.Written.{restored}

@@ -1,6 +1,7 @@
 -- What `step` hands back is what it promises: by the judgement and what is done by it; what the definition keeps well-formed is sound.
 use mathlib.Core.Path.{_≡_, refl, sym, ap, _∙_, subst}
 use Prim.Native.Nat.{_<_}
+use native.Mathlib.Decide.{decLt}
 use native.Mathlib.Omega.{arith}
 use lib.Dec.{T}
 use borrow.Author.Tests.{lt-ltb}
@@ -86,3 +87,7 @@ module _ {s : State} {d : Decision} where
         unsound = λ l f. refused-with (refuses (j .unsound l f));
         sound = λ l S. follows S (j .sound l S);
       }
+
+-- A sound record stays sound, so the next call needs no test.
+pub stays-sound : {s : State} (c : Call) {r : Step} → Stepped s c r → Sound s → Sound (r .state)
+stays-sound c h S = elim (decLt call-limit (c .number)) [ yes above ↦ subst Sound (sym (h .unknown above .state-is)) S | no known ↦ h .sound (omega arith) S .sound ]

@@ -2,7 +2,8 @@
 // the step behind the soundness test, or not at all. It reads records of 32 bytes (document 02, item 3) from standard input: the first says how, in
 // its byte 0, and gives the counter, in its bytes 4 to 7; the next make the record through the entry; those behind the mark are played as the first
 // says, as often as the input has them. It prints a checksum of their answers.
-ghost use Prim.Native.Nat.{_+_, _≤_};
+ghost use mathlib.Core.Path.{_≡_};
+ghost use lib.ListN.{length};
 ghost use Rattle.record.specs.Sound.{Sound};
 ghost use Rattle.record.specs.Step.{Stepped};
 use kernel::Kernel;
@@ -17,9 +18,7 @@ use parts::OK;
 use parts::Task;
 use record::State;
 use record::Step;
-
-// The bytes of a record (document 02, item 3).
-const RECORD: usize = 32;
+use recording::RECORD_BYTES;
 
 // A record with this number is no call: it is the mark.
 const MARK: u8 = 255;
@@ -35,53 +34,18 @@ const ADVANCE: u8 = 2;
 
 // ── Records ──
 
-// A byte as a word, so that it can be shifted to its place.
-fn wide(x: u8) -> u32 {
-    x as u32
-}
-
-// A word of four bytes, the lowest first.
-fn word_at(record: &[u8; RECORD], at: usize) -> u32
-    requires { ⌜ at + 4 ≤ 32 ⌝ }
-{
-    let low = wide(record[at]) | wide(record[at + 1]) << 8;
-    let high = wide(record[at + 2]) << 16 | wide(record[at + 3]) << 24;
-    low | high
-}
-
-// A word as a signed number, as two's complement has it.
-fn signed(word: u32) -> i32 {
-    if word < 2147483648 {
-        return word as i32;
-    }
-    !((4294967295 - word) as i32)
-}
-
-// Bytes 0 to 15: the call. Flag 1 is locked, flag 2 dispatching disabled.
-fn call_of(record: &[u8; RECORD]) -> Call {
-    let flags = record[2];
-    Call {
-        number: record[0],
-        caller: record[1],
-        locked: flags & 1 != 0,
-        disabled: flags & 2 != 0,
-        object: record[3],
-        value: word_at(record, 4),
-        tmout: signed(word_at(record, 8)),
-        attribute: word_at(record, 12),
-    }
-}
-
 // The next record of the input, and how many of its bytes there were: fewer than a record's at the end.
 struct Read {
-    record: [u8; RECORD],
+    bytes: [u8; RECORD_BYTES],
     got: usize,
 }
 
-fn read_record() -> Read {
-    let mut record = [0u8; RECORD];
-    let got = io::read_full(STDIN_FILENO, &mut record);
-    Read { record, got }
+fn read_record() -> Read
+    ensures { λ r. ⌜ 32 ≡ length (r .bytes) ⌝ }
+{
+    let mut bytes = [0u8; RECORD_BYTES];
+    let got = io::read_full(STDIN_FILENO, &mut bytes);
+    Read { bytes, got }
 }
 
 // ── The checksum ──
@@ -186,15 +150,15 @@ fn set_up(counter: u32) -> State
     let mut turns = u64::MAX;
     while 0 < turns {
         let read = read_record();
-        let record = read.record;
+        let record = read.bytes;
         let number = record[0];
         if number == MARK {
             return state;
         }
-        if read.got < RECORD {
+        if read.got < RECORD_BYTES {
             return state;
         }
-        let done = through(state, call_of(&record));
+        let done = through(state, recording::call_of(&record));
         state = done.state;
         turns -= 1;
     }
@@ -221,7 +185,7 @@ fn lap(state: State, call: Call, how: u8) -> Step
     if how == ADVANCE {
         return advance(state, call);
     }
-    let answer = record::finished(Code::Ok, call.value, wide(call.object), call.attribute);
+    let answer = record::finished(Code::Ok, call.value, call.object as u32, call.attribute);
     Step { state, answer }
 }
 
@@ -234,11 +198,11 @@ fn play(start: State, how: u8) -> u32
     let mut turns = u64::MAX;
     while 0 < turns {
         let read = read_record();
-        if read.got < RECORD {
+        if read.got < RECORD_BYTES {
             return sum;
         }
-        let record = read.record;
-        let done = lap(state, call_of(&record), how);
+        let record = read.bytes;
+        let done = lap(state, recording::call_of(&record), how);
         let answer = done.answer;
         state = done.state;
         sum = with_answer(sum, answer);
@@ -249,9 +213,9 @@ fn play(start: State, how: u8) -> u32
 
 fn main() {
     let first = read_record();
-    let record = first.record;
+    let record = first.bytes;
     let how = record[0];
-    let start = set_up(word_at(&record, 4));
+    let start = set_up(recording::word_at(&record, 4));
     io::print_decimal(STDOUT_FILENO, play(start, how) as u64);
     io::write_all(STDOUT_FILENO, b"\n");
 }

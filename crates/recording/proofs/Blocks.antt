@@ -1,9 +1,9 @@
 -- A file's records are the same however its bytes come in blocks, and the numbers counted one by one are the line's.
 use mathlib.Core.Path.{_≡_, refl, sym, _∙_, ap, ap₂}
-use mathlib.Core.Bool.{Bool, true, false, cond, _&&_}
+use mathlib.Core.Bool.{Bool, true, false, cond}
 use mathlib.Core.List.{List, [], _∷_, _++_, append-assoc}
 use Prim.Native.Nat.{ℕ, zero, suc, _+_, _*_, _/_, _<_, _≤_}
-use native.Mathlib.Nat.{add-zero, add-suc, zero-add}
+use native.Mathlib.Nat.{add-zero, zero-add}
 use native.Mathlib.Omega.{arith}
 use lib.Dec.{eqb}
 use borrow.Author.Tests.{eqb-true, eqb-false, ne-eqb}
@@ -13,7 +13,7 @@ use Rattle.rows.specs.Runs.{end, answers}
 use Rattle.rows.proofs.Runs.{end-append, answers-append}
 use Rattle.model.specs.Rows.{Model}
 use Rattle.recording.specs.Replay.{first-records, whole-records, records-of, rest-of, play, how-many, first-of, start, differing, line, replayed}
-use Rattle.recording.specs.Blocks.{Numbers, counted, all-counted, Possible, Replaying, fed, begun, line-of, CutAnywhere, AsWholeFile, AsWholeFiles}
+use Rattle.recording.specs.Blocks.{Numbers, counted, all-counted, Possible, Replaying, fed, begun, CutAnywhere, AsWholeFiles}
 
 -- ── Records ──
 

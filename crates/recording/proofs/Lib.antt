@@ -1,3 +1,4 @@
 pub mod Outcomes
 pub mod Blocks
 pub mod Runs
+pub mod Examples

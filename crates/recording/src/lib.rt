@@ -1,9 +1,10 @@
 // A call with its answer in the 32 bytes that a unit records (document 02, item 3): what the bytes say.
 ghost use mathlib.Core.Path.{_≡_};
-ghost use mathlib.Core.Bool.{_&&_};
+ghost use mathlib.Core.Bool.{_&&_, _||_};
 ghost use Prim.Native.Nat.{_+_, _≤_};
-ghost use lib.Dec.{eqb};
+ghost use lib.Dec.{eqb, ltb};
 ghost use lib.ListN.{length};
+ghost use Rattle.model.specs.Sizes.{call-limit};
 ghost use Rattle.model.specs.Codes.{kind, code-or-place, values};
 ghost use Rattle.recording.specs.Recording.{half, word, signed, same-ℤ, recorded-call, spare-is-zero};
 ghost use Rattle.recording.specs.Replay.{same-values};
@@ -64,7 +65,7 @@ fn half_at(bytes: &[u8], at: usize) -> u32
 }
 
 // Four bytes, the lowest first.
-fn word_at(bytes: &[u8], at: usize) -> u32
+pub fn word_at(bytes: &[u8], at: usize) -> u32
     requires { ⌜ at + 4 ≤ length (now bytes) ⌝ }
     ensures { λ r. ⌜ r ≡ word (now (bytes .entry)) at ⌝ }
 {
@@ -83,7 +84,8 @@ fn signed(word: u32) -> i32
 
 // ── A record ──
 
-fn call_of(bytes: &[u8]) -> Call
+// Bytes 0 to 15.
+pub fn call_of(bytes: &[u8]) -> Call
     requires { ⌜ length (now bytes) ≡ 32 ⌝ }
     ensures { λ r. ⌜ r ≡ recorded-call (now (bytes .entry)) ⌝ }
 {
@@ -100,6 +102,7 @@ fn call_of(bytes: &[u8]) -> Call
     }
 }
 
+// Bytes 16 to 30.
 fn recorded_answer(bytes: &[u8]) -> Recorded
     requires { ⌜ length (now bytes) ≡ 32 ⌝ }
     ensures { λ r. ⌜ r ≡ recorded-answer (now (bytes .entry)) ⌝ }
@@ -121,11 +124,18 @@ fn spare_is_zero(bytes: &[u8]) -> bool
     (bytes[17] == 0) & (bytes[18] == 0) & (bytes[19] == 0) & (bytes[31] == 0)
 }
 
+// An unknown call, kind or flag; the tick's number, 0, is known.
+fn is_unknown(number: u8, kind: u8, flags: u8) -> bool
+    ensures { λ r. ⌜ r ≡ (ltb call-limit number || ltb 1 kind || ltb 3 flags) ⌝ }
+{
+    (CALL_LIMIT < number) | (WAITS < kind) | (BOTH < flags)
+}
+
 pub fn decode(bytes: &[u8]) -> Decoded
     requires { ⌜ length (now bytes) ≡ 32 ⌝ }
     ensures { λ r. ⌜ r ≡ decoded (now (bytes .entry)) ⌝ }
 {
-    let unknown = (CALL_LIMIT < bytes[0]) | (WAITS < bytes[16]) | (BOTH < bytes[2]);
+    let unknown = is_unknown(bytes[0], bytes[16], bytes[2]);
     if unknown | !spare_is_zero(bytes) {
         return Decoded::NotRun;
     }

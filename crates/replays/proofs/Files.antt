@@ -1,22 +1,22 @@
 -- Blocks in a row are one file: by induction on the blocks.
-use mathlib.Core.Path.{_≡_, refl, sym, _∙_, ap, subst}
-use mathlib.Core.List.{List, [], _∷_, _++_, flatten, append-nil}
+use mathlib.Core.Path.{_≡_, sym, _∙_, ap, subst}
+use mathlib.Core.List.{List, [], _++_, flatten, append-nil}
 use Prim.Native.Nat.{ℕ, _+_, _/_, _≤_}
 use native.Mathlib.Omega.{arith}
 use native.Mathlib.Decide.{decLe}
-use lib.ListN.{length, take, length-append, length-take}
+use lib.ListN.{length, length-append, length-take}
 use lib.Seq.{length-take-le}
 use Rattle.lists.specs.Lists.{Each, none, both}
 use Rattle.rows.specs.Runs.{Run, no-call, one-call}
 use Rattle.model.specs.declared.Code.{Code}
 use Rattle.model.specs.declared.Code.the-variants.{Ok as E-OK}
 use Rattle.recording.specs.Replay.{records-of, Line, line}
-use Rattle.recording.specs.Blocks.{Replaying, fed, begun, line-of}
+use Rattle.recording.specs.Blocks.{Replaying, fed, line-of}
 use Rattle.recording.proofs.Blocks.{cut-anywhere, as-whole-files, fed-less, records-fed}
 use Rattle.replays.specs.declared.Fed.{Fed}
 use Rattle.replays.specs.declared.Replay.{Replay}
 use Rattle.replays.specs.Replays.{part-of, meaning, SoundReplay, Follows, count-limit, TakesBlock}
-use Rattle.replays.specs.Files.{Feeds, line-in, EveryFile}
+use Rattle.replays.specs.Files.{Feeds, EveryFile}
 
 -- A block leaves a sound replay sound, taken or not.
 pub stays-sound : {s : Replay} {block : List ℕ} {r : Fed} → SoundReplay s → TakesBlock s block r → SoundReplay (r .replay)

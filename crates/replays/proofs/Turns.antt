@@ -4,7 +4,7 @@ use mathlib.Core.Bool.{Bool, true, false, not, _&&_, _||_}
 use mathlib.Core.List.{List, [], _++_, append-assoc}
 use Prim.Native.Nat.{ℕ, suc, _+_, _-_, _/_, _%_, _<_, _≤_}
 use native.Mathlib.Omega.{arith}
-use lib.Dec.{T, T-not, ltb}
+use lib.Dec.{T}
 use lib.ListN.{length, take, drop, length-append, length-take, length-drop, take-append-drop}
 use lib.Seq.{take-add, take-all}
 use borrow.Author.Tests.{ltb-false}
@@ -12,21 +12,18 @@ use Rattle.model.specs.Sizes.{call-limit}
 use Rattle.model.specs.Rows.{Model}
 use Rattle.model.specs.Codes.{values}
 use Rattle.model.specs.Errors.{unknown}
-use Rattle.model.specs.Step.{step}
 use Rattle.model.specs.declared.Answer.{Answer}
-use Rattle.model.specs.declared.Call.{Call}
 use Rattle.decide.specs.Decisions.{after}
 use Rattle.decide.specs.Touches.{changed-by}
 use Rattle.record.specs.declared.State.{State}
 use Rattle.record.specs.declared.Step.{Step}
 use Rattle.record.specs.Meaning.{abs}
 use Rattle.record.specs.Sound.{Sound}
-use Rattle.record.specs.Step as record-step
 use Rattle.record.specs.Step.{Stepped}
 use Rattle.kernel.specs.Steps.{Applied}
 use Rattle.kernel.proofs.Outcomes.{stepped}
 use Rattle.kernel.proofs.Arms.{nothing-done}
-use Rattle.recording.specs.Recording.{recorded-call, recorded-values, spare-is-zero, not-run}
+use Rattle.recording.specs.Recording.{recorded-call, spare-is-zero, not-run}
 use Rattle.recording.specs.Replay.{same-values, compared, play}
 use Rattle.recording.specs.Blocks.{Numbers, counted, Possible, Replaying, fed}
 use Rattle.recording.specs.Decoded.{values-of}

@@ -9,7 +9,7 @@ use Rattle.model.specs.declared.Code.{Code}
 use Rattle.model.specs.declared.Code.the-variants.{Ok as E-OK}
 use Rattle.record.specs.Meaning.{abs}
 use Rattle.recording.specs.Replay.{records-of, Line, line, replayed}
-use Rattle.recording.specs.Blocks.{begun, line-of}
+use Rattle.recording.specs.Blocks.{begun}
 use Rattle.replays.specs.declared.Replay.{Replay}
 use Rattle.replays.specs.Replays.{meaning, SoundReplay, count-limit, TakesBlock}
 

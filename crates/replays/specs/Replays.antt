@@ -1,11 +1,10 @@
 -- What the replay of a recording promises: document 02, items 3 and 5, on the state that it keeps.
 use mathlib.Core.Path.{_≡_}
-use mathlib.Core.Bool.{Bool, true, false, not}
-use mathlib.Core.List.{List, []}
+use mathlib.Core.Bool.{true, false, not}
+use mathlib.Core.List.{List}
 use Prim.Native.Nat.{ℕ, _<_, _≤_}
 use lib.Dec.{T}
 use lib.ListN.{length, take}
-use Rattle.model.specs.declared.Code.{Code}
 use Rattle.model.specs.declared.Code.the-variants.{Ok as E-OK, Par as E-PAR}
 use Rattle.decide.specs.Touches.{changed-by}
 use Rattle.record.specs.declared.State.{State}

@@ -132,16 +132,16 @@ impl Tally {
 
 // ── Blocks ──
 
-// The part with these bytes behind its first `length`.
-fn appended(part: [u8; RECORD_BYTES], length: usize, bytes: &[u8]) -> [u8; RECORD_BYTES]
-    requires { ⌜ length + lib.ListN.length (now bytes) ≤ 32 ⌝ }
-    ensures { λ r. ⌜ lib.ListN.length r ≡ 32 ⌝ }
-    ensures { λ r. ⌜ take (length + lib.ListN.length (now (bytes .entry))) r ≡ take length part ++ now (bytes .entry) ⌝ }
+// The part with these bytes behind those that it has.
+fn appended(part: [u8; RECORD_BYTES], has: usize, bytes: &[u8]) -> [u8; RECORD_BYTES]
+    requires { ⌜ has + length (now bytes) ≤ 32 ⌝ }
+    ensures { λ r. ⌜ length r ≡ 32 ⌝ }
+    ensures { λ r. ⌜ take (has + length (now (bytes .entry))) r ≡ take has part ++ now (bytes .entry) ⌝ }
 {
     let mut longer = part;
     let mut i: usize = 0;
     while i < bytes.len() {
-        longer[length + i] = bytes[i];
+        longer[has + i] = bytes[i];
         i += 1;
     }
     longer

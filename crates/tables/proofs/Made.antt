@@ -5,7 +5,6 @@ use mathlib.Core.List.{List, [], _∷_, _++_}
 use Prim.Native.Nat.{ℕ, suc, _+_, _≤_}
 use native.Mathlib.Nat.{zero-add}
 use native.Mathlib.Omega.{arith}
-use native.Mathlib.Decide.{decLt}
 use lib.Dec.{T, T-not, ltb, nltb→le}
 use lib.ListN.{length, drop}
 use borrow.Author.Tests.{eq-eqb, ne-eqb}
@@ -13,7 +12,7 @@ use lib.Seq.{sets, sets-eq}
 use Rattle.thin.proofs.Table.{Rest, over, turn}
 use Rattle.rows.specs.Runs.{Run, no-call, one-call}
 use Rattle.lists.proofs.Tests.{passed-test, passes-test}
-use Rattle.model.specs.Sizes.{call-limit, table-limit}
+use Rattle.model.specs.Sizes.{table-limit}
 use Rattle.model.specs.Rows.{Model}
 use Rattle.model.specs.Engine.{Engine, SteppedAs}
 use Rattle.model.specs.Tables.{in-table, table-outside, TableMade}
@@ -27,10 +26,10 @@ use Rattle.record.specs.declared.State.{State}
 use Rattle.record.specs.declared.Step.{Step}
 use Rattle.record.specs.Meaning.{abs}
 use Rattle.record.specs.Sound.{Sound}
-use Rattle.record.specs.Step.{state-engine, Stepped}
+use Rattle.record.specs.Step.{state-engine}
 use Rattle.kernel.specs.Steps.{Weighed, Applied}
 use Rattle.kernel.specs.declared.Judgement.{Judgement}
-use Rattle.kernel.proofs.Outcomes.{stepped}
+use Rattle.kernel.proofs.Outcomes.{stepped, stays-sound}
 use Rattle.kernel.proofs.Arms.{nothing-done}
 use Rattle.tables.specs.Tested.{TestedAs}
 
@@ -46,10 +45,6 @@ read-as-unknown c e = ap (λ b. numbered (cond b 24 (c .number)) c) (sym (eq-eqb
 pub read-as-it-is : (c : Call) → (c .number ≡ 0 → ⊥) → c ≡ in-table c
 unfolding in-table
 read-as-it-is c n = ap (λ b. numbered (cond b 24 (c .number)) c) (sym (ne-eqb _ _ n))
-
--- A sound record stays sound, so the next call needs no test.
-pub stays-sound : {s : State} (c : Call) {r : Step} → Stepped s c r → Sound s → Sound (r .state)
-stays-sound c h S = elim (decLt call-limit (c .number)) [ yes above ↦ subst Sound (sym (h .unknown above .state-is)) S | no known ↦ h .sound (omega arith) S .sound ]
 
 module _ {C A : Type 0} (call-of : C → Call) (answer-of : Answer → A) where
   abbrev pub One : State → C → State → A → Type 0

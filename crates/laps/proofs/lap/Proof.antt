@@ -1,6 +1,6 @@
 -- `lap` leaves a sound record on each way.
 use borrow.Author.Needs.{needs}
-use Rattle.laps.proofs.Kept.{kept}
+use Rattle.kernel.proofs.Outcomes.{stays-sound}
 use Rattle.laps.proofs.lap.Statement.{statement}
 use Rattle.laps.proofs.lap.Tie as tie
 
@@ -17,16 +17,16 @@ through-requires : tie.Need-through-requires
 through-requires c κs = search needs
 
 returns-2 : tie.Need-returns-2
-returns-2 c = kept (search needs) (c .through .ensures)
+returns-2 c = stays-sound _ (c .through .ensures) (search needs)
 
 advance-requires : tie.Need-advance-requires
 advance-requires c κs = search needs
 
 returns-3 : tie.Need-returns-3
-returns-3 c = kept (search needs) (c .advance .ensures)
+returns-3 c = stays-sound _ (c .advance .ensures) (search needs)
 
-wide-requires : tie.Need-wide-requires
-wide-requires c κs = search needs
+cast-finished : tie.Need-cast-finished
+cast-finished c = search needs
 
 finished-requires-2 : tie.Need-finished-requires-2
 finished-requires-2 c κs = search needs
@@ -45,6 +45,6 @@ lap-spec =
     returns-2
     advance-requires
     returns-3
-    wide-requires
+    cast-finished
     finished-requires-2
     returns-4)

@@ -19,6 +19,9 @@ read-record-requires c κs = search needs
 returns : tie.Need-returns Inv-loop μ-loop
 returns c = search needs
 
+slice-aggregate-call-of : tie.Need-slice-aggregate-call-of Inv-loop μ-loop
+slice-aggregate-call-of c = search needs
+
 call-of-requires : tie.Need-call-of-requires Inv-loop μ-loop
 call-of-requires c κs = search needs
 
@@ -49,6 +52,7 @@ play-spec =
     loop-holds
     read-record-requires
     returns
+    slice-aggregate-call-of
     call-of-requires
     lap-requires
     with-answer-requires

@@ -1,7 +1,7 @@
 -- `set_up` ends, since the turns left get fewer, and keeps the record sound.
 use borrow.Author.Needs.{needs}
 use Rattle.record.specs.Sound.{Sound}
-use Rattle.laps.proofs.Kept.{kept}
+use Rattle.kernel.proofs.Outcomes.{stays-sound}
 use Rattle.laps.proofs.set_up.Statement.{statement}
 use Rattle.laps.proofs.set_up.Tie as tie
 
@@ -29,6 +29,9 @@ returns c = search needs
 returns-2 : tie.Need-returns-2 Inv-loop μ-loop
 returns-2 c = search needs
 
+slice-aggregate-call-of : tie.Need-slice-aggregate-call-of Inv-loop μ-loop
+slice-aggregate-call-of c = search needs
+
 call-of-requires : tie.Need-call-of-requires Inv-loop μ-loop
 call-of-requires c κs = search needs
 
@@ -42,7 +45,7 @@ loop-less : tie.Need-loop-less Inv-loop μ-loop
 loop-less c = search needs
 
 loop-again : tie.Need-loop-again Inv-loop μ-loop
-loop-again c = search (needs, kept)
+loop-again c = search (needs, stays-sound)
 
 returns-3 : tie.Need-returns-3 Inv-loop μ-loop
 returns-3 c = search needs
@@ -59,6 +62,7 @@ set-up-spec =
     array-read-number
     returns
     returns-2
+    slice-aggregate-call-of
     call-of-requires
     through-requires
     sub-turns

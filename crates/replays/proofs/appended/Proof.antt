@@ -17,7 +17,7 @@ abbrev μ-loop : tie.MeasureT-loop
 μ-loop n bytes longer₀ i₀ longer i = length bytes - i
 
 loop-holds : tie.Need-loop-holds Inv-loop μ-loop
-loop-holds c = (search needs, search needs, ap (λ k. take k (c .args .part)) (add-zero (c .args .length)) ∙ sym (append-nil (take (c .args .length) (c .args .part))))
+loop-holds c = (search needs, search needs, ap (λ k. take k (c .args .part)) (add-zero (c .args .has)) ∙ sym (append-nil (take (c .args .has) (c .args .part))))
 
 shared-slice-read-longer : tie.Need-shared-slice-read-longer Inv-loop μ-loop
 shared-slice-read-longer c = search needs
@@ -40,14 +40,14 @@ loop-again c =
     let l = c .before .before .loop .longer in
     let i = c .before .before .loop .i in
     let args = c .before .before .before .args in
-    (length-set l (args .length + i) (getD (args .bytes .now) i 0) ∙ size, search needs, one-more-byte (take (args .length) (args .part)) l (args .bytes .now) (args .length) i (search needs) (search needs) so-far)
+    (length-set l (args .has + i) (getD (args .bytes .now) i 0) ∙ size, search needs, one-more-byte (take (args .has) (args .part)) l (args .bytes .now) (args .has) i (search needs) (search needs) so-far)
 
 returns : tie.Need-returns Inv-loop μ-loop
 returns c =
     let (size, within, so-far) = c .before .loop .inv in
     let bytes = c .before .before .args .bytes .now in
     let all : c .before .loop .i ≡ length bytes = search needs in
-    let p = take (c .before .before .args .length) (c .before .before .args .part) in
+    let p = take (c .before .before .args .has) (c .before .before .args .part) in
     (size, rw (← all) (so-far ∙ ap (λ l. p ++ l) (ap (λ k. take k bytes) all ∙ take-length bytes)))
 
 pub appended-spec : {M : Type 1} → statement M
