@@ -1,6 +1,7 @@
 -- `play` takes a record at each turn, and keeps what is left.
 use mathlib.Core.Path.{refl}
 use Prim.Native.Nat.{_-_}
+use native.Mathlib.Omega.{arith}
 use borrow.Author.Needs.{needs}
 use lib.ListN.{length}
 use Rattle.replays.proofs.Parts.{rest-kept}
@@ -55,7 +56,8 @@ loop-again c =
     let test = read .before .before in
     let going = test .before .loop .inv in
     let played = stays (going .sound) (read .read-record .ensures) (tested .if1 .taken) (said .said .result) (said .said .ensures) (c .before .differs .ensures) in
-    turn going (test .loop-test .taken) played (c .counted .ensures)
+    let whole = test .loop-test .taken in
+    turn going (omega arith) played (c .counted .ensures)
 
 apply-requires : tie.Need-apply-requires Inv-loop μ-loop
 apply-requires c κs = search needs
@@ -77,7 +79,8 @@ loop-again-2 c =
     let test = read .before .before in
     let going = test .before .loop .inv in
     let played = moves (going .sound) (read .read-record .ensures) (tested .if1 .left) (applied .apply .ensures) (c .before .differs2 .ensures) in
-    turn going (test .loop-test .taken) played (c .counted2 .ensures)
+    let whole = test .loop-test .taken in
+    turn going (omega arith) played (c .counted2 .ensures)
 
 sub-appended : tie.Need-sub-appended Inv-loop μ-loop
 sub-appended c = search needs
@@ -99,7 +102,8 @@ returns c =
     let test = c .before .before .before in
     let (size, part) = c .appended .ensures in
     let bytes = test .before .before .before .before .before .args .bytes .now in
-    ends (test .before .loop .inv) (test .loop-test .left) refl size (rest-kept bytes (c .appended .result) (test .before .loop .at) part)
+    let less = test .loop-test .left in
+    ends (test .before .loop .inv) (omega arith) refl size (rest-kept bytes (c .appended .result) (test .before .loop .at) part)
 
 pub play-spec : {M : Type 1} → statement M
 play-spec =

@@ -71,7 +71,8 @@ returns-3 c =
     let args = appended .before .before .before .before .before .before .args in
     let missing = 32 - args .self .length in
     let (size, part) = appended .appended2 .ensures in
-    let taken = length-take-le missing (args .block .now) (appended .before .before .if2 .left) in
+    let enough = appended .before .before .if2 .left in
+    let taken = length-take-le missing (args .block .now) (omega arith) in
     let within = appended .before .before .before .before .before .before .pre .0 .part-within in
     let full : args .self .length + length (take missing (args .block .now)) ≡ 32 = omega arith in
     joined-block (args .self) missing (whole-part _ size full part) (part-played (args .self) size (c .before .before .play2 .ensures)) (c .play3 .ensures)
