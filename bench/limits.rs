@@ -263,33 +263,13 @@ fn print_row<T: Display>(name: &str, cells: &[T]) {
 
 // ── The ways of a call ──
 
-const NAMES: [&str; 25] = [
-    "tick",
-    "define_task",
-    "cre_dtq",
-    "del_dtq",
-    "snd_dtq",
-    "psnd_dtq",
-    "tsnd_dtq",
-    "fsnd_dtq",
-    "rcv_dtq",
-    "prcv_dtq",
-    "trcv_dtq",
-    "ref_dtq",
-    "cre_mbx",
-    "del_mbx",
-    "snd_mbx",
-    "rcv_mbx",
-    "prcv_mbx",
-    "trcv_mbx",
-    "ref_mbx",
-    "rel_wai",
-    "sus_tsk",
-    "rsm_tsk",
-    "look",
-    "fetch",
-    "number 24",
-];
+// The number behind the last call's is unknown.
+fn call_name(number: u32) -> String {
+    match CALL_NAMES.get(number as usize) {
+        Some(name) => name.to_string(),
+        None => format!("number {number}"),
+    }
+}
 
 const REFUSED: &str = "refused";
 
@@ -418,7 +398,7 @@ fn all_calls(name: &str, records: &[Record]) -> Result<Vec<Line>, String> {
     let mut all = Vec::new();
     for number in TICK..=FETCH + 1 {
         let ways: Vec<&str> = ways(number).iter().copied().chain([REFUSED]).collect();
-        let mut lines: Vec<Line> = ways.iter().map(|way| Line::new(format!("{name}: {}, {way}", NAMES[number as usize]))).collect();
+        let mut lines: Vec<Line> = ways.iter().map(|way| Line::new(format!("{name}: {}, {way}", call_name(number)))).collect();
         for ground in &grounds {
             for call in calls_of(&ground.record, number) {
                 let mut after = ground.record;
@@ -533,8 +513,8 @@ fn longest() -> Result<Vec<Line>, String> {
         assert_eq!(crowd.waiting(32).call(A_TICK).a, 32);
         lines.push(one(format!("most: tick ends 32 waits, {name}"), crowd.waiting(32), A_TICK, ok)?);
         lines.push(one(format!("most: rel_wai of the last of 32 {name}"), crowd.waiting(32), by(0, REL_WAI, 1), ok)?);
-        lines.push(one(format!("most: {} with 31 {name}", NAMES[crowd.delete as usize]), crowd.waiting(31), by(32, crowd.delete, 1), ok)?);
-        lines.push(one(format!("most: {} behind 31 {name}", NAMES[crowd.wait as usize]), crowd.waiting(31), crowd.wait_of(32), Place(31))?);
+        lines.push(one(format!("most: {} with 31 {name}", call_name(crowd.delete)), crowd.waiting(31), by(32, crowd.delete, 1), ok)?);
+        lines.push(one(format!("most: {} behind 31 {name}", call_name(crowd.wait)), crowd.waiting(31), crowd.wait_of(32), Place(31))?);
     }
     lines.push(one("most: snd_mbx by priority behind 63 messages".into(), messages_queued(63), message(0, 1, 64, 5), ok)?);
     lines.push(one("most: prcv_mbx, the first of 64 messages".into(), messages_queued(64), by(0, PRCV_MBX, 1), ok)?);

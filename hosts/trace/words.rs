@@ -1,39 +1,11 @@
 //! Calls and answers in words: the papers' names, and what document 01 says that each word of an answer is.
-use linguastel::{code_name, number, Answer, Call, Outcome};
+use linguastel::{code_name, number, Answer, Call, Outcome, CALL_NAMES};
 use linguastel::{AT_MAILBOX, E_DLT, E_OK, E_RLWAI, E_TMOUT, FOREVER, NO_WAIT, RECEIVING, SENDING, TA_MPRI, TA_TFIFO, TA_TPRI};
-
-/// By number, as document 01 and docs/calls have them.
-pub const NAMES: [&str; 24] = [
-    "tick",
-    "define_task",
-    "cre_dtq",
-    "del_dtq",
-    "snd_dtq",
-    "psnd_dtq",
-    "tsnd_dtq",
-    "fsnd_dtq",
-    "rcv_dtq",
-    "prcv_dtq",
-    "trcv_dtq",
-    "ref_dtq",
-    "cre_mbx",
-    "del_mbx",
-    "snd_mbx",
-    "rcv_mbx",
-    "prcv_mbx",
-    "trcv_mbx",
-    "ref_mbx",
-    "rel_wai",
-    "sus_tsk",
-    "rsm_tsk",
-    "look",
-    "fetch",
-];
 
 // ── A call ──
 
 pub fn name(number: u32) -> &'static str {
-    NAMES.get(number as usize).copied().unwrap_or("unknown call")
+    CALL_NAMES.get(number as usize).copied().unwrap_or("unknown call")
 }
 
 /// The tick has no caller.

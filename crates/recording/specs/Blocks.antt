@@ -1,4 +1,4 @@
--- Document 02, item 5: a recording that arrives in blocks of any length, also of no bytes. What the replay keeps between two blocks, and what a block makes of it.
+-- Document 02, item 5: a recording in blocks of any length, also of no bytes: what the replay keeps between two blocks, and what a block does to it.
 use mathlib.Core.Path.{_≡_}
 use mathlib.Core.Bool.{Bool, cond, _&&_}
 use mathlib.Core.List.{List, [], _∷_, _++_}

@@ -47,6 +47,34 @@ pub const E_RLWAI: i32 = -49;
 pub const E_TMOUT: i32 = -50;
 pub const E_DLT: i32 = -51;
 
+/// The calls' names, by number, as document 01 and docs/calls have them.
+pub const CALL_NAMES: [&str; number::LAST as usize + 1] = [
+    "tick",
+    "define_task",
+    "cre_dtq",
+    "del_dtq",
+    "snd_dtq",
+    "psnd_dtq",
+    "tsnd_dtq",
+    "fsnd_dtq",
+    "rcv_dtq",
+    "prcv_dtq",
+    "trcv_dtq",
+    "ref_dtq",
+    "cre_mbx",
+    "del_mbx",
+    "snd_mbx",
+    "rcv_mbx",
+    "prcv_mbx",
+    "trcv_mbx",
+    "ref_mbx",
+    "rel_wai",
+    "sus_tsk",
+    "rsm_tsk",
+    "look",
+    "fetch",
+];
+
 pub const fn code_name(code: i32) -> &'static str {
     match code {
         E_OK => "E_OK",
