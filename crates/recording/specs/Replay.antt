@@ -1,9 +1,11 @@
 -- Document 02, item 3: a file of such records, replayed from the empty state, and the four numbers of the line. A file is the list of all its bytes.
+use mathlib.Core.Path.{_≡_}
 use mathlib.Core.Bool.{Bool, true, false, not, cond, _&&_}
 use mathlib.Core.List.{List, [], _∷_}
 use Prim.Native.Nat.{ℕ, zero, suc, _*_, _/_}
 use lib.Dec.{eqb}
 use lib.ListN.{length, take, drop}
+use Rattle.lists.specs.Tests.{Whether}
 use Rattle.rows.specs.Program.{Result}
 use Rattle.rows.specs.Runs.{end, answers}
 use Rattle.model.specs.Rows.{Model, empty-state}
@@ -38,6 +40,10 @@ rest-of bytes = drop (record-bytes * whole-records bytes) bytes
 abbrev pub same-values : Values → Values → Bool
 same-values v w =
     eqb (v .kind) (w .kind) && same-ℤ (v .code-or-place) (w .code-or-place) && eqb (v .a) (w .a) && eqb (v .b) (w .b) && eqb (v .c) (w .c)
+
+-- The test is exact.
+abbrev pub SameValuesExactly : Type 0
+SameValuesExactly = (v w : Values) → Whether (v ≡ w) (same-values v w)
 
 -- A record that was run differs where its answer isn't the one that the call has now.
 unfoldable pub compared : List ℕ → Result Model Answer → Result Model Bool
