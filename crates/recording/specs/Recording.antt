@@ -26,6 +26,7 @@ word r n = half r n + 65536 * half r (n + 2)
 abbrev pub signed : ℕ → ℤ
 signed w = cond (ltb w 2147483648) (pos w) (negsuc (4294967295 - w))
 
+-- Whether two signed numbers are the same.
 abbrev pub same-ℤ : ℤ → ℤ → Bool
 same-ℤ (pos m) (pos n) = eqb m n
 same-ℤ (negsuc m) (negsuc n) = eqb m n

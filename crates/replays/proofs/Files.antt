@@ -1,6 +1,6 @@
 -- Blocks in a row are one file: by induction on the blocks.
 use mathlib.Core.Path.{_≡_, sym, _∙_, ap, subst}
-use mathlib.Core.List.{List, [], _++_, flatten, append-nil}
+use mathlib.Core.List.{List, [], _∷_, _++_, flatten, append-nil}
 use Prim.Native.Nat.{ℕ, _+_, _/_, _≤_}
 use native.Mathlib.Omega.{arith}
 use native.Mathlib.Decide.{decLe}
@@ -15,8 +15,8 @@ use Rattle.recording.specs.Blocks.{Replaying, fed, line-of}
 use Rattle.recording.proofs.Blocks.{cut-anywhere, as-whole-files, fed-less, records-fed}
 use Rattle.replays.specs.declared.Fed.{Fed}
 use Rattle.replays.specs.declared.Replay.{Replay}
-use Rattle.replays.specs.Replays.{part-of, meaning, SoundReplay, Follows, count-limit, TakesBlock}
-use Rattle.replays.specs.Files.{Feeds, EveryFile}
+use Rattle.replays.specs.Replays.{part-of, meaning, SoundReplay, AfterBytes, count-limit, TakesBlock}
+use Rattle.replays.specs.Files.{FilesRun, Feeds, EveryFile}
 
 -- A block leaves a sound replay sound, taken or not.
 pub stays-sound : {s : Replay} {block : List ℕ} {r : Fed} → SoundReplay s → TakesBlock s block r → SoundReplay (r .replay)
@@ -34,7 +34,7 @@ more-bytes x earlier later h =
     omega arith
 
 all-fed : {s last : Replay} {blocks : List (List ℕ)} {codes : List Code} → SoundReplay s → Run Feeds s blocks last codes
-    → fed (meaning s) (flatten blocks) .numbers .records ≤ count-limit → Each (λ code. code ≡ E-OK) codes × Follows (meaning s) (flatten blocks) last
+    → fed (meaning s) (flatten blocks) .numbers .records ≤ count-limit → Each (λ code. code ≡ E-OK) codes × AfterBytes (meaning s) (flatten blocks) last
 unfolding flatten
 all-fed {s} S no-call h =
     let within = S .part-within in
@@ -71,3 +71,10 @@ every-file first last blocks codes S new run h =
 
     few : (blocks : List (List ℕ)) {n : ℕ} → n ≡ line (flatten blocks) .records → length (records-of (flatten blocks)) ≤ count-limit → n ≤ count-limit
     few blocks e h = omega arith
+
+pub files-run : FilesRun
+files-run feed feeds first S [] = record { last = first; codes = []; run = no-call }
+files-run feed feeds first S (block ∷ blocks) =
+    let t = feeds first block S in
+    let more = files-run feed feeds (feed first block .replay) (stays-sound S t) blocks in
+    record { last = more .last; codes = feed first block .code ∷ more .codes; run = one-call t (more .run) }

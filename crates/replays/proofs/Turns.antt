@@ -31,7 +31,7 @@ use Rattle.recording.proofs.Blocks.{cut-anywhere, fed-less, fed-one, records-fe
 use Rattle.replays.specs.declared.Reading.{Reading}
 use Rattle.replays.specs.declared.Replay.{Replay}
 use Rattle.replays.specs.declared.Tally.{Tally}
-use Rattle.replays.specs.Replays.{numbers-of, part-of, meaning, SoundReplay, ReadFrom, Follows, count-limit, records-with}
+use Rattle.replays.specs.Replays.{numbers-of, part-of, meaning, SoundReplay, ReadFrom, AfterBytes, count-limit, records-with}
 
 -- ── One record ──
 
@@ -143,7 +143,7 @@ turn {x} {bytes} {s} {left} {t} {next} {at} {differs} g enough p e =
     }
 
 pub ends : {x : Replaying} {bytes : List ℕ} {r : Replay} {at : ℕ} → Going x bytes (r .state) (r .tally) at → length bytes - at < 32
-    → r .length ≡ length bytes - at → length (r .part) ≡ 32 → take (r .length) (r .part) ≡ drop at bytes → Follows x bytes r
+    → r .length ≡ length bytes - at → length (r .part) ≡ 32 → take (r .length) (r .part) ≡ drop at bytes → AfterBytes x bytes r
 ends {x} {bytes} {r} {at} g few n size e =
     let whole = take-append-drop at bytes in
     let less : length (drop at bytes) < 32 = let a = length-drop at bytes in omega arith in
@@ -161,12 +161,12 @@ abbrev pub as-if-whole : Replay → Replaying
 as-if-whole s = behind-no-part (s .state) (s .tally)
 
 -- There is no part.
-pub no-part : (s : Replay) {r : Replay} {block : List ℕ} → s .length ≡ 0 → Follows (as-if-whole s) block r → Follows (meaning s) block r
-no-part s {r} {block} e f = subst (λ (part : List ℕ). Follows (record { state = abs (s .state); numbers = numbers-of (s .tally); part = part }) block r) (ap (λ n. take n (s .part)) (sym e)) f
+pub no-part : (s : Replay) {r : Replay} {block : List ℕ} → s .length ≡ 0 → AfterBytes (as-if-whole s) block r → AfterBytes (meaning s) block r
+no-part s {r} {block} e f = subst (λ (part : List ℕ). AfterBytes (record { state = abs (s .state); numbers = numbers-of (s .tally); part = part }) block r) (ap (λ n. take n (s .part)) (sym e)) f
 
 -- It makes no record whole.
 pub short-block : {s : Replay} {block part : List ℕ} → SoundReplay s → s .length + length block < 32 → length part ≡ 32
-    → take (s .length + length block) part ≡ part-of s ++ block → Follows (meaning s) block (record { state = s .state; tally = s .tally; part = part; length = s .length + length block })
+    → take (s .length + length block) part ≡ part-of s ++ block → AfterBytes (meaning s) block (record { state = s .state; tally = s .tally; part = part; length = s .length + length block })
 short-block {s} {block} {part} S few size e =
     let long : length (part-of s ++ block) < 32 = let a = length-append (part-of s) block in let b = length-take (s .length) (s .part) in omega arith in
     record {
@@ -180,7 +180,7 @@ pub record PartPlayed (s : Replay) (bytes : List ℕ) (r : Replay) : Type 0 wher
   pub one-more : r .tally .records ≡ suc (s .tally .records)
   pub sound : SoundReplay r
 
-pub part-played : (s : Replay) {r : Replay} {bytes : List ℕ} → length bytes ≡ 32 → Follows (as-if-whole s) bytes r → PartPlayed s bytes r
+pub part-played : (s : Replay) {r : Replay} {bytes : List ℕ} → length bytes ≡ 32 → AfterBytes (as-if-whole s) bytes r → PartPlayed s bytes r
 part-played s {r} {bytes} size f =
     let one = f .meaning-is ∙ fed-one (abs (s .state)) (numbers-of (s .tally)) bytes size in
     record {
@@ -191,7 +191,7 @@ part-played s {r} {bytes} size f =
 
 -- Then the others follow.
 pub joined-block : (s : Replay) {r last : Replay} {block whole : List ℕ} (n : ℕ) → whole ≡ part-of s ++ take n block → PartPlayed s whole r
-    → Follows (as-if-whole r) (take (length block - n) (drop n block)) last → Follows (meaning s) block last
+    → AfterBytes (as-if-whole r) (take (length block - n) (drop n block)) last → AfterBytes (meaning s) block last
 unfolding fed
 joined-block s {r} {last} {block} {whole} n e p f = record {
   meaning-is =

@@ -10,6 +10,7 @@ use Rattle.model.specs.declared.Code.the-variants.{Ok as E-OK}
 use Rattle.record.specs.Meaning.{abs}
 use Rattle.recording.specs.Replay.{records-of, Line, line, replayed}
 use Rattle.recording.specs.Blocks.{begun}
+use Rattle.replays.specs.declared.Fed.{Fed}
 use Rattle.replays.specs.declared.Replay.{Replay}
 use Rattle.replays.specs.Replays.{meaning, SoundReplay, count-limit, TakesBlock}
 
@@ -22,7 +23,7 @@ abbrev pub line-in : Replay → Line
 line-in r = record { records = r .tally .records; differ = r .tally .differ; first = r .tally .first; tail = r .length }
 
 -- What a replay is after all bytes of a file.
-pub record Replayed (bytes : List ℕ) (r : Replay) : Type 0 where
+pub record FileReplayed (bytes : List ℕ) (r : Replay) : Type 0 where
   pub line-is : line-in r ≡ line bytes
   pub state-is : abs (r .state) ≡ replayed bytes
   pub sound : SoundReplay r
@@ -33,4 +34,15 @@ abbrev pub EveryFile : Type 0
 EveryFile =
     (first last : Replay) (blocks : List (List ℕ)) (codes : List Code)
     → SoundReplay first → meaning first ≡ begun → Run Feeds first blocks last codes → length (records-of (flatten blocks)) ≤ count-limit
-    → Each (λ code. code ≡ E-OK) codes × Replayed (flatten blocks) last
+    → Each (λ code. code ≡ E-OK) codes × FileReplayed (flatten blocks) last
+
+-- This is not about nothing: wherever blocks are fed by that contract, as the code feeds them, every list of blocks is fed to its end.
+pub record SomeRun (first : Replay) (blocks : List (List ℕ)) : Type 0 where
+  pub last : Replay
+  pub codes : List Code
+  pub run : Run Feeds first blocks last codes
+
+abbrev pub FilesRun : Type 0
+FilesRun =
+    (feed : Replay → List ℕ → Fed) → ((s : Replay) (block : List ℕ) → SoundReplay s → TakesBlock s block (feed s block))
+    → (first : Replay) → SoundReplay first → (blocks : List (List ℕ)) → SomeRun first blocks

@@ -50,7 +50,7 @@ pub record ReadFrom (s : State) (bytes : List ℕ) (x : Reading) : Type 0 where
 -- ── Blocks ──
 
 -- The replay after the bytes, where it was this one before: meaning and soundness.
-pub record Follows (before : Replaying) (bytes : List ℕ) (after : Replay) : Type 0 where
+pub record AfterBytes (before : Replaying) (bytes : List ℕ) (after : Replay) : Type 0 where
   pub meaning-is : meaning after ≡ fed before bytes
   pub sound : SoundReplay after
 
@@ -65,4 +65,4 @@ records-with s block = fed (meaning s) block .numbers .records
 -- "a block that would take records past 64 bits gets E_PAR", and changes nothing.
 pub record TakesBlock (s : Replay) (block : List ℕ) (r : Fed) : Type 0 where
   pub too-many : count-limit < records-with s block → (r .code ≡ E-PAR) × (r .replay ≡ s)
-  pub otherwise : records-with s block ≤ count-limit → (r .code ≡ E-OK) × Follows (meaning s) block (r .replay)
+  pub otherwise : records-with s block ≤ count-limit → (r .code ≡ E-OK) × AfterBytes (meaning s) block (r .replay)

@@ -12,11 +12,12 @@ ghost use Rattle.record.specs.Sound.{Sound};
 ghost use Rattle.recording.specs.Replay.{same-values};
 ghost use Rattle.recording.specs.Blocks.{counted, begun};
 ghost use Rattle.recording.specs.Decoded.{values-of};
-ghost use Rattle.replays.specs.Replays.{numbers-of, meaning, SoundReplay, ReadFrom, Follows, count-limit, TakesBlock};
+ghost use Rattle.replays.specs.Replays.{numbers-of, meaning, SoundReplay, ReadFrom, AfterBytes, count-limit, TakesBlock};
 use decide::Decision;
 use model::Answer;
 use model::Code;
 use record::State;
+use record::Step;
 use recording::Decoded;
 use recording::RECORD_BYTES;
 use recording::Recorded;
@@ -169,13 +170,19 @@ impl Replay {
     fn play(self, bytes: &[u8]) -> Replay
         requires { ⌜ SoundReplay self ⌝ }
         requires { ⌜ self .tally .records + length (now bytes) / 32 ≤ count-limit ⌝ }
-        ensures { λ r. ⌜ Follows (record { state = abs (self .state); numbers = numbers-of (self .tally); part = [] }) (now (bytes .entry)) r ⌝ }
+        ensures { λ r. ⌜ AfterBytes (record { state = abs (self .state); numbers = numbers-of (self .tally); part = [] }) (now (bytes .entry)) r ⌝ }
     {
-        let mut state = self.state;
+        // The state stands in what the last record left, which saves a copy of it.
+        let start = self.state;
+        let mut last = Step {
+            state: start,
+            answer: record::finished(Code::Ok, 0, 0, 0),
+        };
         let mut tally = self.tally;
         let mut at: usize = 0;
         while RECORD_BYTES <= bytes.len() - at {
             let next = at + RECORD_BYTES;
+            let state = last.state;
             let reading = read_record(state, &bytes[at..next]);
             let decision = reading.decision;
             at = next;
@@ -183,11 +190,11 @@ impl Replay {
                 tally = tally.counted(differs(reading, decide::said(decision)));
                 continue;
             }
-            let stepped = kernel::apply(state, decision);
-            let answer = stepped.answer;
-            state = stepped.state;
+            last = kernel::apply(state, decision);
+            let answer = last.answer;
             tally = tally.counted(differs(reading, answer));
         }
+        let state = last.state;
         let old = self.part;
         let part = appended(old, 0, &bytes[at..]);
         Replay {
@@ -202,7 +209,7 @@ impl Replay {
     fn take(self, block: &[u8]) -> Replay
         requires { ⌜ SoundReplay self ⌝ }
         requires { ⌜ self .tally .records + (self .length + length (now block)) / 32 ≤ count-limit ⌝ }
-        ensures { λ r. ⌜ Follows (meaning self) (now (block .entry)) r ⌝ }
+        ensures { λ r. ⌜ AfterBytes (meaning self) (now (block .entry)) r ⌝ }
     {
         let length = self.length;
         if length == 0 {

@@ -10,13 +10,16 @@ use Rattle.replays.proofs.Replay.play.Statement.{statement}
 use Rattle.replays.proofs.Replay.play.Tie as tie
 
 abbrev Inv-loop : tie.InvT-loop
-Inv-loop self bytes state₀ tally₀ at₀ state tally at = Going (behind-no-part (self .state) (self .tally)) bytes state tally at
+Inv-loop self bytes last₀ tally₀ at₀ last tally at = Going (behind-no-part (self .state) (self .tally)) bytes (last .state) tally at
 
 abbrev μ-loop : tie.MeasureT-loop
-μ-loop self bytes state₀ tally₀ at₀ state tally at = length bytes - at
+μ-loop self bytes last₀ tally₀ at₀ last tally at = length bytes - at
+
+finished-requires : tie.Need-finished-requires Inv-loop μ-loop
+finished-requires c κs = search needs
 
 loop-holds : tie.Need-loop-holds Inv-loop μ-loop
-loop-holds c = let pre = c .before .before .before .pre in starts (pre .0 .sound) (pre .0 .possible) (pre .1)
+loop-holds c = let pre = c .before .before .before .before .pre in starts (pre .0 .sound) (pre .0 .possible) (pre .1)
 
 sub-loop : tie.Need-sub-loop Inv-loop μ-loop
 sub-loop c = search needs
@@ -53,7 +56,7 @@ loop-again c =
     let said = c .before .before in
     let tested = said .before in
     let read = tested .before .before in
-    let test = read .before .before in
+    let test = read .before .before .before in
     let going = test .before .loop .inv in
     let played = stays (going .sound) (read .read-record .ensures) (tested .if1 .taken) (said .said .result) (said .said .ensures) (c .before .differs .ensures) in
     let whole = test .loop-test .taken in
@@ -73,10 +76,10 @@ loop-less-2 c = search needs
 
 loop-again-2 : tie.Need-loop-again-2 Inv-loop μ-loop
 loop-again-2 c =
-    let applied = c .before .before .before .before in
+    let applied = c .before .before .before in
     let tested = applied .before in
     let read = tested .before .before in
-    let test = read .before .before in
+    let test = read .before .before .before in
     let going = test .before .loop .inv in
     let played = moves (going .sound) (read .read-record .ensures) (tested .if1 .left) (applied .apply .ensures) (c .before .differs2 .ensures) in
     let whole = test .loop-test .taken in
@@ -94,14 +97,14 @@ part-appended-end c = search needs
 appended-requires : tie.Need-appended-requires Inv-loop μ-loop
 appended-requires c κs = search needs
 
-sub-t25 : tie.Need-sub-t25 Inv-loop μ-loop
-sub-t25 c = search needs
+sub-t29 : tie.Need-sub-t29 Inv-loop μ-loop
+sub-t29 c = search needs
 
 returns : tie.Need-returns Inv-loop μ-loop
 returns c =
-    let test = c .before .before .before in
+    let test = c .before .before .before .before in
     let (size, part) = c .appended .ensures in
-    let bytes = test .before .before .before .before .before .args .bytes .now in
+    let bytes = test .before .before .before .before .before .before .args .bytes .now in
     let less = test .loop-test .left in
     ends (test .before .loop .inv) (omega arith) refl size (rest-kept bytes (c .appended .result) (test .before .loop .at) part)
 
@@ -111,6 +114,7 @@ play-spec =
     (tie.spec
     Inv-loop
     μ-loop
+    finished-requires
     loop-holds
     sub-loop
     add-next
@@ -132,5 +136,5 @@ play-spec =
     part-appended-start
     part-appended-end
     appended-requires
-    sub-t25
+    sub-t29
     returns)
