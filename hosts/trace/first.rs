@@ -60,7 +60,7 @@ fn write_state(to: &mut dyn Write, lines: &[String], other: &[String]) -> Result
 #[cfg(test)]
 mod tests {
     use super::*;
-    use crate::demo::Writer;
+    use crate::stored::Writer;
     use linguastel::{Call, Context};
 
     fn text_of(writer: &Writer) -> String {

@@ -156,11 +156,11 @@ fn fault_in_words(step: &Step) -> String {
 #[cfg(test)]
 mod tests {
     use super::*;
-    use crate::demo;
+    use crate::stored;
 
     #[test]
-    fn the_demo() {
-        let lanes = gather(&demo::demo(), 0);
+    fn the_carriers() {
+        let lanes = gather(&stored::carriers(), 0);
         let used = |holders: &[Holder]| holders.iter().filter(|lane| lane.used).map(|lane| lane.number).collect::<Vec<_>>();
         assert_eq!((used(&lanes.queues), used(&lanes.mailboxes)), (vec![1, 2], vec![1]));
         let waiting: Vec<usize> = lanes.tasks.iter().filter(|lane| !lane.bars.is_empty()).map(|lane| lane.number).collect();
@@ -176,7 +176,7 @@ mod tests {
 
     #[test]
     fn faults_have_words() {
-        let lanes = gather(&demo::differs(), 0);
+        let lanes = gather(&stored::differs(), 0);
         let found: Vec<(u64, bool)> = lanes.faults.iter().map(|fault| (fault.record, fault.run)).collect();
         assert_eq!(found, [(13, true), (14, false), (16, true)]);
         assert_eq!(lanes.faults[0].words, "record 13, task 3 prcv_dtq data queue 1: recorded E_OK, word 640; replayed E_OK, word 615");

@@ -69,7 +69,7 @@ pub fn hexadecimal(bytes: &[u8]) -> String {
 #[cfg(test)]
 mod tests {
     use super::*;
-    use crate::demo::Writer;
+    use crate::stored::Writer;
     use linguastel::{Call, Context};
 
     fn listed(bytes: &[u8]) -> String {

@@ -1,14 +1,14 @@
 //! `show FILE [--counter N] [--list] [--first] [--picture FILE.svg]` replays a trace of a unit (document 02, item 3) on the kernel, from the empty
 //! state at counter 0 or N, and prints item 3's line. FILE may be -, the standard input. docs/reading-traces.md says what the options show.
-//! `show --write-demo FILE` and `show --write-differs FILE` write the stored traces of this folder.
+//! `show --write-carriers FILE` and `show --write-differs FILE` write the stored traces of this folder.
 //! The exit status is 0 where no record differs, 1 where one does, 2 where the program was called wrongly or a file can't be read or written.
 #![forbid(unsafe_code)]
 use std::io::{BufWriter, ErrorKind, Read, Write};
 use std::process::ExitCode;
 use trace_tool::play::Line;
-use trace_tool::{demo, first, list, picture};
+use trace_tool::{first, list, picture, stored};
 
-const USAGE: &str = "show FILE [--counter N] [--list] [--first] [--picture FILE.svg]\nshow --write-demo FILE\nshow --write-differs FILE";
+const USAGE: &str = "show FILE [--counter N] [--list] [--first] [--picture FILE.svg]\nshow --write-carriers FILE\nshow --write-differs FILE";
 
 #[derive(Default, Debug, PartialEq)]
 struct Options {
@@ -84,8 +84,8 @@ fn show(options: &Options) -> Result<bool, String> {
 
 fn run(arguments: &[String]) -> Result<bool, String> {
     match arguments {
-        [option, path] if option == "--write-demo" => write(path, &demo::demo()).map(|()| true),
-        [option, path] if option == "--write-differs" => write(path, &demo::differs()).map(|()| true),
+        [option, path] if option == "--write-carriers" => write(path, &stored::carriers()).map(|()| true),
+        [option, path] if option == "--write-differs" => write(path, &stored::differs()).map(|()| true),
         _ => show(&options(arguments)?),
     }
 }

@@ -132,7 +132,7 @@ fn left_out([one, several]: [&str; 2], numbers: &[usize]) -> Option<String> {
 #[cfg(test)]
 mod tests {
     use super::*;
-    use crate::demo::{self, Writer};
+    use crate::stored::{self, Writer};
     use crate::svg::width_of;
     use linguastel::{number, Call, Context};
 
@@ -225,8 +225,10 @@ mod tests {
 
     #[test]
     fn all_pictures_are_well_formed_and_readable() {
-        let demo = demo::demo();
-        for bytes in [demo.clone(), demo::differs(), wrong(&demo), Vec::new(), vec![0; 32], many(20), many(600), many(20_000), wrong(&many(20_000))] {
+        let carriers = stored::carriers();
+        for bytes in
+            [carriers.clone(), stored::differs(), wrong(&carriers), Vec::new(), vec![0; 32], many(20), many(600), many(20_000), wrong(&many(20_000))]
+        {
             for counter in [0, u32::MAX - 5] {
                 let svg = picture(&bytes, counter);
                 assert_well_formed(&svg);
@@ -236,8 +238,8 @@ mod tests {
     }
 
     #[test]
-    fn lanes_of_the_demo() {
-        let svg = picture(&demo::demo(), 0);
+    fn lanes_of_the_carriers() {
+        let svg = picture(&stored::carriers(), 0);
         let names: Vec<&str> = svg.lines().filter(|line| line.starts_with("<text class=\"name\"")).map(|line| content(line)).collect();
         let lanes = ["data queue 1", "data queue 2", "mailbox 1", "task 1", "task 4", "task 5"];
         assert_eq!(names, [["record", "counter"].as_slice(), &lanes, &["record", "counter"]].concat());
@@ -251,7 +253,7 @@ mod tests {
 
     #[test]
     fn records_that_differ() {
-        let svg = picture(&demo::differs(), 0);
+        let svg = picture(&stored::differs(), 0);
         assert_eq!(svg.matches("class=\"line-differs\"").count(), 2);
         assert_eq!(svg.matches("class=\"line-not-run\"").count(), 1);
         assert!(svg.contains("<title>record 14 isn't run: unknown flag, flags 4 (byte 2)</title>"));

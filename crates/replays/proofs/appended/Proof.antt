@@ -4,7 +4,7 @@ use mathlib.Core.List.{_++_, append-nil}
 use Prim.Native.Nat.{_+_, _-_, _≤_}
 use native.Mathlib.Nat.{add-zero}
 use borrow.Author.Needs.{needs}
-use lib.ListN.{length, take, getD, length-set}
+use lib.ListN.{length, take, length-set}
 use lib.Seq.{take-length}
 use Rattle.replays.proofs.Parts.{one-more-byte}
 use Rattle.replays.proofs.appended.Statement.{statement}
@@ -40,7 +40,7 @@ loop-again c =
     let l = c .before .before .loop .longer in
     let i = c .before .before .loop .i in
     let args = c .before .before .before .args in
-    (length-set l (args .has + i) (getD (args .bytes .now) i 0) ∙ size, search needs, one-more-byte (take (args .has) (args .part)) l (args .bytes .now) (args .has) i (search needs) (search needs) so-far)
+    (length-set l (args .has + i) _ ∙ size, search needs, one-more-byte (take (args .has) (args .part)) l (args .bytes .now) (args .has) i (search needs) (search needs) so-far)
 
 returns : tie.Need-returns Inv-loop μ-loop
 returns c =

@@ -1,4 +1,4 @@
-//! The stored traces of this folder, written again: the story of hosts/rust/src/bin/demo.rs in some more calls, and a short trace that differs.
+//! The stored traces of this folder, written again: two carriers as in hosts/rust/src/bin/demo.rs, with some more calls, and a short trace that differs.
 use crate::decode::SIZE;
 use linguastel::{number, Answer, Call, Context, Record, E_OK, NO_WAIT, TA_MPRI, TA_TFIFO};
 
@@ -178,7 +178,7 @@ impl Story {
 
 /// Two carriers, of which A floods its own queue: its waits end with E_OK, by a time-out, by rel_wai and with its queue. B goes on all the time. The
 /// operator waits at a mailbox for reports, the last time until a time-out.
-pub fn demo() -> Vec<u8> {
+pub fn carriers() -> Vec<u8> {
     let mut story = Story::start();
     for step in 0..STEPS {
         story.carrier_b(step);
@@ -224,8 +224,8 @@ mod tests {
     use crate::state::ended;
 
     #[test]
-    fn the_demo_has_what_it_says() {
-        let bytes = demo();
+    fn the_carriers_trace_has_what_it_says() {
+        let bytes = carriers();
         let line = Line::of(&bytes, 0);
         assert!((60..=100).contains(&line.records) && line.differ == 0 && line.tail == 0, "{line}");
         let codes: Vec<i32> = steps(&bytes, 0).flat_map(|step| ended(&step.before, &step.after)).map(|ended| ended.code).collect();
