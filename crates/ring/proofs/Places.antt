@@ -1,4 +1,4 @@
--- Where steps along a ring of any size lead: by the laws of remainders. Besides these laws only the two functions that compute a place open `further`.
+-- Where steps along a ring of any size lead: by the laws of remainders. Nothing else opens `further`.
 use mathlib.Core.Path.{_≡_, ap, _∙_}
 use mathlib.Core.Logic.{_≢_}
 use mathlib.Core.Bool.{Bool}
@@ -24,19 +24,28 @@ pub one-then-further : (size place n : ℕ) → further size (further size place
 unfolding further
 one-then-further size place n = mod-add-mod (place + 1) size n ∙ ap (λ k. k % size) (omega arith)
 
--- Where up to one round of steps leads: to a place before the end, or past the end and on from the first place.
+-- Steps that stay before the end just add up.
+pub further-before-end : (size place n : ℕ) → place + n < size → further size place n ≡ place + n
+unfolding further
+further-before-end size place n l = mod-eq-of-lt l
+
+-- Up to one round of steps that reaches the end goes on from the first place.
+pub further-past-end : (size place n : ℕ) → place < size → n ≤ size → size ≤ place + n → further size place n + size ≡ place + n
+unfolding further
+further-past-end size place n p h l =
+    omega (arith, mod-eq-sub-mod {n = place + n} {m = size} (omega arith), mod-eq-of-lt {n = place + n - size} {m = size} (omega arith))
+
+-- These are all cases.
 data Reached (size place n : ℕ) : Type 0 where
   before-end : further size place n ≡ place + n → Reached size place n
   past-end : further size place n + size ≡ place + n → Reached size place n
 
 reached : (size place n : ℕ) → place < size → n ≤ size → Reached size place n
-unfolding further
 reached size place n p h = go (is-ltb (place + n) size)
   where
     go : {b : Bool} → Whether (place + n < size) b → Reached size place n
-    go (holds l) = before-end (mod-eq-of-lt l)
-    go (fails l) =
-        past-end (omega (arith, mod-eq-sub-mod {n = place + n} {m = size} (omega arith), mod-eq-of-lt {n = place + n - size} {m = size} (omega arith)))
+    go (holds l) = before-end (further-before-end size place n l)
+    go (fails l) = past-end (further-past-end size place n p h (omega arith))
 
 -- Within one round no place comes twice.
 pub different-places : (size place n m : ℕ) → place < size → n < size → m < size → n ≢ m → further size place n ≢ further size place m

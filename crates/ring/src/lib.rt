@@ -27,21 +27,33 @@ pub struct Taken {
     pub ring: Ring,
 }
 
-// The place after this one. The first comes after the last.
-fn next_place(place: u8) -> u8
-    requires { ⌜ place < places ⌝ }
-    ensures { λ r. ⌜ r ≡ further places place 1 ⌝ }
+// ── Places, found without a division (document 02, item 4) ──
+
+// The place after this one, in a ring of so many places. The first comes after the last.
+fn next_place(place: u8, size: u8) -> u8
+    requires { ⌜ place < size ⌝ }
+    ensures { λ r. ⌜ r ≡ further size place 1 ⌝ }
 {
-    (place + 1) % PLACE_LIMIT
+    let last = size - 1;
+    if place < last {
+        return place + 1;
+    }
+    0
 }
 
-// The place n steps after this one.
-fn place_further(place: u8, n: u8) -> usize
-    requires { ⌜ (place < places) × (n ≤ places) ⌝ }
-    ensures { λ r. ⌜ r ≡ further places place n ⌝ }
+// The place n steps after this one, at most one round on. Place and n are added only where the sum is below the size, so no size is too large for its type.
+fn place_further(place: u8, n: u8, size: u8) -> u8
+    requires { ⌜ (place < size) × (n ≤ size) ⌝ }
+    ensures { λ r. ⌜ r ≡ further size place n ⌝ }
 {
-    ((place + n) % PLACE_LIMIT) as usize
+    let to_end = size - place;
+    if n < to_end {
+        return place + n;
+    }
+    n - to_end
 }
+
+// ── A ring by value ──
 
 impl Ring {
     // An empty ring.
@@ -85,7 +97,7 @@ impl Ring {
         ensures { λ r. ⌜ Pushed self word r ⌝ }
     {
         let count = self.count;
-        let at = place_further(self.head, count);
+        let at = place_further(self.head, count, PLACE_LIMIT) as usize;
         self.words[at] = word;
         self.count = count + 1;
         self
@@ -99,7 +111,7 @@ impl Ring {
         let head = self.head;
         let at = head as usize;
         let word = self.words[at];
-        self.head = next_place(head);
+        self.head = next_place(head, PLACE_LIMIT);
         self.count = self.count - 1;
         Taken { word, ring: self }
     }

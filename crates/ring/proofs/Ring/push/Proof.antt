@@ -10,6 +10,9 @@ use Rattle.ring.proofs.Ring.push.Tie as tie
 place-further-requires : tie.Need-place-further-requires
 place-further-requires c κs = search needs
 
+cast-at : tie.Need-cast-at
+cast-at c = search needs
+
 element-write-self : tie.Need-element-write-self
 element-write-self c = rw (c .place-further .ensures) (further-is-place places _ _ (omega arith))
 
@@ -26,4 +29,4 @@ returns c =
 
 pub push-spec : {M : Type 1} → statement M
 push-spec =
-    tie.close (tie.spec place-further-requires mul-self element-write-self add-self returns)
+    tie.close (tie.spec place-further-requires cast-at mul-self element-write-self add-self returns)
