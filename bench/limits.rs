@@ -1,7 +1,8 @@
 //! What bench/limits runs. Every call, accepted in each of its ways and refused, is played on the proved library and on the kernel in Rust: on a typical
-//! record, on a full one, and where the most is to be done. But for the tick it is played in a table of 64 calls too. For each it prints the copies that
-//! one call makes with memcpy and memmove, and the stack that it takes. It fails where the library is above a limit, where the two answer differently,
-//! and where a table doesn't do what the single call does.
+//! record, on a full one, and where the most is to be done. But for the tick it is played in a table of 64 calls too, and where it can be recorded, in a
+//! block that ends its record, the replay's part being the beginning. For each it prints the copies that one call makes with memcpy and memmove, and the
+//! stack that it takes. It fails where the library is above a limit, where the two answer differently, and where a table or a block doesn't do what the
+//! single call does.
 #[allow(dead_code)]
 mod cycles;
 
@@ -20,6 +21,9 @@ const COPIED_LIMIT: usize = 12 * size_of::<Record>();
 // Likewise, in a table of 64 calls: the stack is that of the whole table, the bytes copied are those of one call.
 const TABLE_STACK_LIMIT: usize = 8_192;
 const TABLE_COPIED_LIMIT: usize = 9_728;
+// Likewise, of a block that ends one record.
+const BLOCK_STACK_LIMIT: usize = 28_672;
+const BLOCK_COPIED_LIMIT: usize = 20 * size_of::<Record>();
 
 // ── What is measured ──
 
@@ -32,6 +36,7 @@ struct Copied {
 extern "C" {
     fn linguastel_call(record: &mut Record, call: Call) -> Answer;
     fn linguastel_table(record: &mut Record, calls: *const Call, call_count: usize, answers: *mut Answer, answer_count: usize) -> i32;
+    fn linguastel_replay_feed(replay: &mut Replay, block: *const u8, size: usize) -> i32;
     // Of copies.c and stack.c.
     fn copied_so_far() -> Copied;
     fn stack_written(play: extern "C" fn(*mut c_void), job: *mut c_void) -> usize;
@@ -175,6 +180,44 @@ fn measured_table(record: &Record, call: Call) -> (Figures, Table) {
     (Figures { stack: figures.stack - frames, ..figures }, job)
 }
 
+// ── One call in a block of a recording ──
+
+type BlockEntry = unsafe extern "C" fn(&mut Replay, *const u8, usize) -> i32;
+
+extern "C" fn no_block(_: &mut Replay, _: *const u8, _: usize) -> i32 {
+    E_OK
+}
+
+struct Block {
+    entry: BlockEntry,
+    replay: Replay,
+    block: [u8; TRACE_SIZE - BEGINNING],
+    code: i32,
+}
+
+// So many bytes of the record are in the replay's part.
+const BEGINNING: usize = TRACE_SIZE / 2;
+
+impl Job for Block {
+    fn play(&mut self) {
+        // SAFETY: the block is whole. The function takes any replay and any bytes, and writes the replay alone.
+        self.code = unsafe { (self.entry)(&mut self.replay, self.block.as_ptr(), self.block.len()) };
+    }
+}
+
+fn block(entry: BlockEntry, kernel: &Record, record: [u8; TRACE_SIZE]) -> Block {
+    let replay = Replay { kernel: *kernel, part: record, length: BEGINNING as u64, ..Replay::empty() };
+    Block { entry, replay, block: std::array::from_fn(|i| record[BEGINNING + i]), code: E_OK }
+}
+
+fn measured_block(kernel: &Record, record: [u8; TRACE_SIZE]) -> (Figures, Block) {
+    static FRAMES: OnceLock<usize> = OnceLock::new();
+    let frames = FRAMES.get_or_init(|| frames_around(block(no_block, &Record::empty(), [0; TRACE_SIZE])));
+    let mut job = block(linguastel_replay_feed, kernel, record);
+    let figures = raw(&mut job);
+    (Figures { stack: figures.stack - frames, ..figures }, job)
+}
+
 // A record to play on, and what a table takes there that has unknown calls alone.
 struct Ground {
     record: Record,
@@ -204,6 +247,13 @@ impl Ground {
         let code = if self.sound { E_OK } else { E_SYS };
         (table.code == code && table.answers == answers && table.record == *after).then(|| self.share(figures))
     }
+
+    // The same of a block with the call's record, which has this answer. Where the kernel's state isn't sound, the block is refused.
+    fn in_a_block(&self, record: [u8; TRACE_SIZE], after: &Record) -> Option<Figures> {
+        let (figures, fed) = measured_block(&self.record, record);
+        let (code, records) = if self.sound { (E_OK, 1) } else { (E_SYS, 0) };
+        (fed.code == code && (fed.replay.records, fed.replay.differ) == (records, 0) && fed.replay.kernel == *after).then_some(figures)
+    }
 }
 
 // ── Lines ──
@@ -214,12 +264,14 @@ struct Line {
     library: Figures,
     // In a table; none for a tick, which can't stand in one.
     table: Option<Figures>,
+    // In a block of a recording; none for an unknown number, which isn't recorded.
+    block: Option<Figures>,
     rust: Figures,
 }
 
 impl Line {
     fn new(name: String) -> Line {
-        Line { name, played: 0, library: Figures::default(), table: None, rust: Figures::default() }
+        Line { name, played: 0, library: Figures::default(), table: None, block: None, rust: Figures::default() }
     }
 
     // The line keeps the most of all calls that were played for it.
@@ -235,6 +287,11 @@ impl Line {
             let table = table.ok_or_else(|| format!("{}: {call:?}: a table doesn't do what the single call does", self.name))?;
             self.table = Some(self.table.unwrap_or_default().most(table));
         }
+        if let Some(record) = call.trace(answer) {
+            let block = ground.in_a_block(record, &after);
+            let block = block.ok_or_else(|| format!("{}: {call:?}: a block doesn't do what the single call does", self.name))?;
+            self.block = Some(self.block.unwrap_or_default().most(block));
+        }
         self.played += 1;
         self.library = self.library.most(library);
         self.rust = self.rust.most(rust);
@@ -242,13 +299,11 @@ impl Line {
     }
 
     fn print(&self) {
-        let Line { name, played, library, table, rust } = self;
-        let table = match table {
-            Some(table) => cells([table.whole, table.copied, table.stack]),
-            None => vec!["-".into(); 3],
-        };
+        let Line { name, played, library, table, block, rust } = self;
+        let table = table.map_or(vec!["-".into(); 3], |table| cells([table.whole, table.copied, table.stack]));
+        let block = block.map_or(vec!["-".into(); 2], |block| cells([block.copied, block.stack]));
         let library = cells([*played, library.whole, library.copied, library.stack]);
-        print_row(name, &[library, table, cells([rust.copied, rust.stack])].concat());
+        print_row(name, &[library, table, block, cells([rust.copied, rust.stack])].concat());
     }
 }
 
@@ -542,13 +597,19 @@ fn in_table(line: &Line) -> Figures {
     line.table.unwrap_or_default()
 }
 
-const ALL_MOST: [Most; 8] = [
+fn in_block(line: &Line) -> Figures {
+    line.block.unwrap_or_default()
+}
+
+const ALL_MOST: [Most; 10] = [
     Most { what: "whole copies", limit: None, of: |line| line.library.whole },
     Most { what: "bytes copied", limit: Some(COPIED_LIMIT), of: |line| line.library.copied },
     Most { what: "bytes of stack", limit: Some(STACK_LIMIT), of: |line| line.library.stack },
     Most { what: "whole copies in a table of 64, for one call", limit: None, of: |line| in_table(line).whole },
     Most { what: "bytes copied in a table of 64, for one call", limit: Some(TABLE_COPIED_LIMIT), of: |line| in_table(line).copied },
     Most { what: "bytes of stack of a table of 64", limit: Some(TABLE_STACK_LIMIT), of: |line| in_table(line).stack },
+    Most { what: "bytes copied by a block that ends one record", limit: Some(BLOCK_COPIED_LIMIT), of: |line| in_block(line).copied },
+    Most { what: "bytes of stack of a block that ends one record", limit: Some(BLOCK_STACK_LIMIT), of: |line| in_block(line).stack },
     Most { what: "bytes copied in Rust", limit: None, of: |line| line.rust.copied },
     Most { what: "bytes of stack in Rust", limit: None, of: |line| line.rust.stack },
 ];
@@ -573,8 +634,9 @@ fn run() -> Result<(), String> {
         return Err("copies aren't counted: bench/copies.c is not what was linked".into());
     }
     let lines = all_lines()?;
-    print_row("", &["", "whole", "bytes", "", "table:", "", "", "Rust:", ""]);
-    print_row("the most of all calls that were played", &["calls", "copies", "copied", "stack", "copies", "copied", "stack", "copied", "stack"]);
+    print_row("", &["", "whole", "bytes", "", "table:", "", "", "block:", "", "Rust:", ""]);
+    let columns = ["calls", "copies", "copied", "stack", "copies", "copied", "stack", "copied", "stack", "copied", "stack"];
+    print_row("the most of all calls that were played", &columns);
     lines.iter().for_each(Line::print);
     ALL_MOST.iter().for_each(|most| most.print(&lines));
     let faults: Vec<String> = ALL_MOST.iter().flat_map(|most| most.above(&lines)).collect();

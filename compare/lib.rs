@@ -2,6 +2,9 @@
 #![forbid(unsafe_code)]
 use std::process::ExitCode;
 
+pub mod block_counts;
+pub mod blocks;
+pub mod both;
 pub mod carriers;
 pub mod damage;
 pub mod limits;
@@ -9,6 +12,7 @@ pub mod play;
 pub mod record;
 pub mod replays;
 pub mod runs;
+pub mod stored;
 pub mod tables;
 pub mod unsound;
 

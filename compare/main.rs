@@ -2,12 +2,17 @@
 //! `compare short` plays 1,000,000 calls, `compare long [CALLS] [SEED]` 100,000,000 or as many as said; both with tables, damaged records and merges.
 //! `compare records [COUNT] [SEED]` and `compare carriers [COUNT] [SEED]` play those alone, `compare run KIND SEED` repeats one run.
 //! `compare replays [COUNT] [SEED]` plays 2,500 files of records, or as many as said, on the program replay.
-//! `compare mutant` stops at the first difference within 100,000 calls, `compare mutant replays` within 1,000 files; both print one line.
+//! `compare blocks [COUNT] [SEED]` feeds 1,000,000 blocks of recordings, or as many as said, to the library's replay record, `compare blocks --corpus`
+//! the stored recordings and `compare blocks --files FILE...` these in random cuts.
+//! `compare mutant` stops at the first difference within 100,000 calls, `compare mutant replays` within 1,000 files, `compare mutant blocks` within
+//! 20,000 blocks; each prints one line.
 //! The exit status is 1 where something differs.
 #![forbid(unsafe_code)]
 use comparison::replays;
 use comparison::runs::{Kind, Totals};
+use comparison::stored;
 use std::fmt::{Display, Formatter};
+use std::path::PathBuf;
 use std::process::ExitCode;
 use std::time::{Duration, Instant};
 
@@ -19,12 +24,17 @@ const ALL_KINDS: Round = &[(Kind::Empty, 1), (Kind::Wrap, 1), (Kind::States, 5),
 const RECORDS: Round = &[(Kind::Records, 20)];
 const CARRIERS: Round = &[(Kind::Carriers, 20)];
 const REPLAYS: Round = &[(Kind::Replays, 20)];
+const BLOCKS: Round = &[(Kind::Blocks, 20)];
 /// The carriers' lists are played on the kernel alone, and say nothing of the second program.
 const FOR_A_MUTANT: Round = &[(Kind::Empty, 1), (Kind::Wrap, 1), (Kind::States, 5), (Kind::Records, 6)];
 
 const CALLS_FOR_A_MUTANT: u64 = 100_000;
 const FILES_FOR_A_MUTANT: u64 = 1_000;
+const BLOCKS_FOR_A_MUTANT: u64 = 20_000;
 const BETWEEN_REPORTS: Duration = Duration::from_secs(10);
+
+const USAGE: &str = "compare short | long [CALLS] [SEED] | records, carriers, replays or blocks [COUNT] [SEED] | blocks --corpus |
+    blocks --files FILE... | mutant [replays or blocks] | run KIND SEED";
 
 /// What a comparison must have reached.
 #[derive(Clone, Copy)]
@@ -35,13 +45,15 @@ enum Asked {
     Calls,
     /// Every path of the replay.
     Replays,
+    /// Every path of the replay in blocks.
+    Blocks,
 }
 
 /// A run that found a difference.
 struct Found {
     kind: Kind,
     seed: u64,
-    /// Calls on the kernel until then, in all runs, or files.
+    /// Calls on the kernel until then, in all runs, or files, or blocks.
     place: String,
     text: String,
 }
@@ -89,16 +101,20 @@ impl Session {
 
     /// How far the session has come, counted in what this kind plays.
     fn place(&self, kind: Kind) -> String {
-        if kind == Kind::Replays {
-            return format!("file {}", self.totals.replays.files);
+        match kind {
+            Kind::Replays => format!("file {}", self.totals.replays.files),
+            Kind::Blocks => format!("block {}", self.totals.blocks.all_blocks()),
+            _ => format!("call {}", self.totals.all_calls()),
         }
-        format!("call {}", self.totals.all_calls())
     }
 
     fn progress(&self) -> String {
         let totals = &self.totals;
         if totals.replays.files > 0 {
             return format!("{} files replayed, 0 differences", totals.replays.files);
+        }
+        if totals.blocks.all_blocks() > 0 {
+            return format!("{} blocks compared, 0 differences", totals.blocks.all_blocks());
         }
         let rate = totals.all_calls() as f64 / self.started.elapsed().as_secs_f64();
         let others = format!("{} tables, {} damaged records, {} merges", totals.all_tables(), totals.records.records(), totals.carriers.merges);
@@ -129,8 +145,9 @@ fn compare(mut session: Session, asked: Asked, done: impl Fn(&Totals) -> bool) -
 
 /// What was compared, by kind, and in few words.
 fn in_words(totals: &Totals, asked: Asked) -> (String, String) {
-    let replays = &totals.replays;
+    let (replays, blocks) = (&totals.replays, &totals.blocks);
     match asked {
+        Asked::Blocks => (blocks.summary(), format!("{} blocks with {} records, {} ends", blocks.all_blocks(), blocks.records, blocks.ends.all())),
         Asked::Replays => (replays.summary(), format!("{} files with {} records", replays.files, replays.records)),
         Asked::Nothing | Asked::Calls => (totals.summary(), format!("{} calls and {} tables of all kinds", totals.all_calls(), totals.all_tables())),
     }
@@ -148,6 +165,10 @@ fn never_reached(totals: &Totals, asked: Asked) -> Vec<String> {
         Asked::Replays => {
             println!("{what}\n{}", totals.replays.reached);
             totals.replays.missing()
+        }
+        Asked::Blocks => {
+            println!("{what}\n{}", totals.blocks.reached);
+            totals.blocks.missing()
         }
     }
 }
@@ -173,7 +194,7 @@ fn mutant(round: Round, limit: &str, done: impl Fn(&Totals) -> bool) -> bool {
     }
 }
 
-/// Calls say nothing of how records are read, so a mutant of that is played on files alone.
+/// Calls say nothing of how records are read or cut, so a mutant of that is played on files alone, or on blocks.
 fn mutant_of(what: Option<&String>) -> Result<bool, String> {
     match what.map(String::as_str) {
         None => {
@@ -185,7 +206,11 @@ fn mutant_of(what: Option<&String>) -> Result<bool, String> {
             let limit = format!("{FILES_FOR_A_MUTANT} files");
             Ok(mutant(REPLAYS, &limit, |totals| totals.replays.files >= FILES_FOR_A_MUTANT))
         }
-        Some(other) => Err(format!("mutants are played on calls, or on replays; '{other}' isn't known")),
+        Some("blocks") => {
+            let limit = format!("{BLOCKS_FOR_A_MUTANT} blocks");
+            Ok(mutant(BLOCKS, &limit, |totals| totals.blocks.all_blocks() >= BLOCKS_FOR_A_MUTANT))
+        }
+        Some(other) => Err(format!("mutants are played on calls, on replays or on blocks; '{other}' isn't known")),
     }
 }
 
@@ -216,14 +241,22 @@ fn run(arguments: &[String]) -> Result<bool, String> {
             replays::find_program()?;
             Ok(compare(Session::new(REPLAYS, seed()?), Asked::Replays, |totals| totals.replays.files >= files))
         }
+        "blocks" => match arguments.get(1).map(String::as_str) {
+            Some("--corpus") => stored::compare_files(&stored::corpus()?),
+            Some("--files") => stored::compare_files(&arguments[2..].iter().map(PathBuf::from).collect::<Vec<PathBuf>>()),
+            _ => {
+                let blocks = count(1_000_000)?;
+                Ok(compare(Session::new(BLOCKS, seed()?), Asked::Blocks, |totals| totals.blocks.all_blocks() >= blocks))
+            }
+        },
         "mutant" => mutant_of(arguments.get(1)),
         "run" => repeat(arguments.get(1), seed()?),
-        _ => Err("compare short | long [CALLS] [SEED] | records, carriers or replays [COUNT] [SEED] | mutant [replays] | run KIND SEED".to_string()),
+        _ => Err(USAGE.to_string()),
     }
 }
 
 fn repeat(kind: Option<&String>, seed: u64) -> Result<bool, String> {
-    let kind = kind.and_then(|name| Kind::named(name)).ok_or("kinds of run: empty, wrap, states, records, carriers, replays")?;
+    let kind = kind.and_then(|name| Kind::named(name)).ok_or("kinds of run: empty, wrap, states, records, carriers, replays, blocks")?;
     let result = Totals::default().run(kind, seed);
     println!("{}", result.as_ref().err().map_or("no difference", String::as_str));
     if result.is_err() {

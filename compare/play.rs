@@ -65,7 +65,7 @@ pub fn leaves_the_record(call: &Call, answer: &linguastel::Answer) -> bool {
 }
 
 /// The lines that only one of two states in words has.
-fn lines_apart(kernel: &str, second: &str) -> String {
+pub fn lines_apart(kernel: &str, second: &str) -> String {
     let mut text = String::new();
     for line in kernel.lines().filter(|line| !second.lines().any(|other| other == *line)) {
         text += &format!("only the kernel has: {line}\n");

@@ -45,7 +45,7 @@ pub struct File {
 }
 
 impl File {
-    fn random(random: &mut Random) -> File {
+    pub fn random(random: &mut Random) -> File {
         let form = match random.below(100) {
             0..=1 => Form::Empty,
             2..=54 => Form::Made,

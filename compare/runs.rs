@@ -1,4 +1,6 @@
 //! The kinds of run. A run follows from its kind and its seed alone, so that it can be repeated.
+use crate::block_counts;
+use crate::blocks::compare_blocks;
 use crate::carriers::{self, compare_merges};
 use crate::damage::{Damage, DAMAGES};
 use crate::limits::next_call;
@@ -24,6 +26,8 @@ pub enum Kind {
     Carriers,
     /// Files of records, on the program replay.
     Replays,
+    /// Recordings in blocks, on the library's replay record.
+    Blocks,
 }
 
 /// In how many ways the second program finds a state not sound, but for lists that are too long and numbers in them that are out of range: from such
@@ -33,7 +37,7 @@ const FAULTS: usize = 22;
 /// So many of a hundred calls of a run have a table before them.
 const TABLES: u32 = 1;
 
-pub const KINDS: [Kind; 6] = [Kind::Empty, Kind::Wrap, Kind::States, Kind::Records, Kind::Carriers, Kind::Replays];
+pub const KINDS: [Kind; 7] = [Kind::Empty, Kind::Wrap, Kind::States, Kind::Records, Kind::Carriers, Kind::Replays, Kind::Blocks];
 
 impl Kind {
     pub fn name(self) -> &'static str {
@@ -44,6 +48,7 @@ impl Kind {
             Kind::Records => "records",
             Kind::Carriers => "carriers",
             Kind::Replays => "replays",
+            Kind::Blocks => "blocks",
         }
     }
 
@@ -55,7 +60,7 @@ impl Kind {
         match self {
             Kind::Empty | Kind::Wrap => 500,
             Kind::States => 200,
-            Kind::Records | Kind::Carriers | Kind::Replays => 0,
+            Kind::Records | Kind::Carriers | Kind::Replays | Kind::Blocks => 0,
         }
     }
 }
@@ -97,6 +102,7 @@ pub struct Totals {
     pub records: unsound::Counts,
     pub carriers: carriers::Counts,
     pub replays: replays::Counts,
+    pub blocks: block_counts::Counts,
     pub reached: Reached,
 }
 
@@ -159,6 +165,7 @@ impl Totals {
             }
             Kind::Carriers => self.merge(&mut random),
             Kind::Replays => compare_replay(&mut random, &mut self.replays),
+            Kind::Blocks => compare_blocks(&mut random, &mut self.blocks),
         }
     }
 

@@ -6,10 +6,13 @@
 //! failed.
 //!
 //! `second replay` reads records from standard input to its end, replays them
-//! and prints the line of item 3 of document 02.
+//! and prints the line of item 3 of document 02. `second replay --blocks SEED`
+//! does the same by item 5: it cuts what it reads into random blocks and feeds
+//! these one by one.
 #![forbid(unsafe_code)]
 
 use second::*;
+use std::io::Read;
 use std::process::exit;
 use std::time::Instant;
 
@@ -21,17 +24,28 @@ const SHORT_LENGTH: u64 = 5;
 const TABLES: u32 = 1;
 
 fn main() {
-    if std::env::args().skip(1).eq(["replay"]) {
-        return replay_input();
+    let arguments: Vec<String> = std::env::args().skip(1).collect();
+    let words: Vec<&str> = arguments.iter().map(String::as_str).collect();
+    match words[..] {
+        ["replay"] => replay_input(),
+        ["replay", "--blocks", seed] => replay_blocks(number(seed)),
+        [count, seed] => play_alone(number(count), number(seed)),
+        _ => misused(),
     }
-    let arguments = std::env::args()
-        .skip(1)
-        .filter_map(|text| text.parse().ok());
-    let arguments: Vec<u64> = arguments.collect();
-    let [count, seed] = arguments[..] else {
-        eprintln!("usage: second COUNT SEED, or second replay");
-        exit(2);
-    };
+}
+
+/// A number that was given as an argument.
+fn number(text: &str) -> u64 {
+    text.parse().unwrap_or_else(|_| misused())
+}
+
+fn misused() -> ! {
+    eprintln!("usage: second COUNT SEED, second replay, or second replay --blocks SEED");
+    exit(2);
+}
+
+/// Plays so many random calls and prints what they reached.
+fn play_alone(count: u64, seed: u64) {
     let begun = Instant::now();
     let mut random = Random::new(seed);
     let mut reached = Reached::new();
@@ -69,6 +83,31 @@ fn replay_input() {
             exit(2);
         }
     }
+}
+
+/// Feeds standard input in random blocks and prints its line.
+fn replay_blocks(seed: u64) {
+    let mut bytes = Vec::new();
+    if let Err(error) = std::io::stdin().lock().read_to_end(&mut bytes) {
+        eprintln!("standard input: {error}");
+        exit(2);
+    }
+    let mut random = Random::new(seed);
+    let cut = random.pick(&CUTS);
+    let lengths = random_cuts(&mut random, bytes.len(), cut);
+    let mut replay = ReplayState::new();
+    let mut reached = BlocksReached::new();
+    let mut code = feed_in_blocks(&mut replay, &bytes, &lengths, &mut reached);
+    let (code_at_end, line) = replay.end(&mut reached);
+    if code == E_OK {
+        code = code_at_end;
+    }
+    // No input is so long that it is refused.
+    if code != E_OK {
+        eprintln!("refused: {}", code_name(code));
+        exit(1);
+    }
+    println!("{line}");
 }
 
 /// One step, kept to be printed when a check fails.

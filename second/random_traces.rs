@@ -36,15 +36,9 @@ pub fn random_trace_and_end(
     length: u32,
     damage: u32,
 ) -> Trace {
-    let line = Line {
-        records: 0,
-        differ: 0,
-        first: 0,
-        tail: 0,
-    };
     let mut trace = Trace {
         bytes: Vec::new(),
-        line,
+        line: Line::ZEROS,
         state: State::empty(0),
     };
     for _ in 0..length {
@@ -80,7 +74,7 @@ impl Trace {
 }
 
 /// A call or tick of known number; unknown ones come as damage.
-fn known_call(random: &mut Random, profile: &Profile, state: &State) -> Call {
+pub(crate) fn known_call(random: &mut Random, profile: &Profile, state: &State) -> Call {
     let mut call = random_call(random, profile, state);
     while call.number > FETCH {
         call = random_call(random, profile, state);
@@ -133,7 +127,7 @@ fn fill_unused(random: &mut Random, call: &mut Call) {
 }
 
 /// Makes a record differ. Says whether it is run all the same.
-fn damage_record(random: &mut Random, record: &mut [u8; RECORD]) -> bool {
+pub(crate) fn damage_record(random: &mut Random, record: &mut [u8; RECORD]) -> bool {
     if random.percent(50) {
         change_answer(random, record);
         return true;

@@ -173,11 +173,51 @@ pub struct Line {
     pub tail: u64,
 }
 
+impl Line {
+    /// The line of an empty file.
+    pub const ZEROS: Line = Line {
+        records: 0,
+        differ: 0,
+        first: 0,
+        tail: 0,
+    };
+}
+
 impl fmt::Display for Line {
     fn fmt(&self, out: &mut fmt::Formatter) -> fmt::Result {
         write!(out, "records {} differ {}", self.records, self.differ)?;
         write!(out, " first {} tail {}", self.first, self.tail)
     }
+}
+
+/// Takes the next record of a recording: plays it on the state and counts it
+/// in records, differ and first, which stand in this order.
+pub(crate) fn take(
+    state: &mut State,
+    [records, differ, first]: [&mut u64; 3],
+    bytes: &[u8; RECORD],
+    reached: &mut TraceReached,
+) {
+    *records += 1;
+    if differs(state, &Record::decode(bytes), reached) {
+        *differ += 1;
+        if *first == 0 {
+            *first = *records;
+        }
+    }
+}
+
+/// A record that is not run counts as differing and leaves the state. Any
+/// other is run, and the state goes on from there if it differs too.
+fn differs(state: &mut State, record: &Record, reached: &mut TraceReached) -> bool {
+    if !record.is_run() {
+        reached.not_run(record);
+        return true;
+    }
+    let call = record.call();
+    let answer = state.play(&call, &mut reached.calls);
+    reached.run(record, &call, &answer);
+    !record.has_answer(&answer)
 }
 
 /// What the replay of a whole file gives, and what it reached.
@@ -219,26 +259,8 @@ impl Replay {
 
     /// Takes the next record of the file.
     pub fn take_record(&mut self, bytes: &[u8; RECORD]) {
-        self.records += 1;
-        if self.differs(&Record::decode(bytes)) {
-            self.differ += 1;
-            if self.first == 0 {
-                self.first = self.records;
-            }
-        }
-    }
-
-    /// A record that is not run counts as differing and leaves the state. Any
-    /// other is run, and the state goes on from there if it differs too.
-    fn differs(&mut self, record: &Record) -> bool {
-        if !record.is_run() {
-            self.reached.not_run(record);
-            return true;
-        }
-        let call = record.call();
-        let answer = self.state.play(&call, &mut self.reached.calls);
-        self.reached.run(record, &call, &answer);
-        !record.has_answer(&answer)
+        let numbers = [&mut self.records, &mut self.differ, &mut self.first];
+        take(&mut self.state, numbers, bytes, &mut self.reached);
     }
 
     /// Takes the whole records of the bytes; gives the number of bytes after

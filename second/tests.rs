@@ -1,6 +1,6 @@
 //! The paper's sixteen runs, and some cases around them. Item 1 of document 02
 //! amends runs 10 and 11. The tables of its item 2 and the replay of its item 3
-//! come last.
+//! come last; its item 5 is in `tests_blocks.rs`.
 
 use crate::*;
 use std::io::{self, Read};
@@ -104,7 +104,7 @@ impl Run {
     }
 }
 
-fn call(number: u32, caller: u32, object: u32, value: u32) -> Call {
+pub(crate) fn call(number: u32, caller: u32, object: u32, value: u32) -> Call {
     Call {
         number,
         caller,
@@ -1217,7 +1217,7 @@ fn merges_of_tables() {
 }
 
 /// The records of calls with the answers that they have from the empty state.
-fn recorded(calls: &[Call]) -> Vec<[u8; 32]> {
+pub(crate) fn recorded(calls: &[Call]) -> Vec<[u8; 32]> {
     let mut state = State::empty(0);
     let answers = answers(&mut state, calls);
     let records = calls.iter().zip(&answers);
@@ -1227,7 +1227,7 @@ fn recorded(calls: &[Call]) -> Vec<[u8; 32]> {
 }
 
 /// Task 1, a queue of capacity 2 and a word in it.
-fn first_calls() -> Vec<Call> {
+pub(crate) fn first_calls() -> Vec<Call> {
     vec![
         call(DEFINE_TASK, 0, 1, 5),
         call(CRE_DTQ, 0, 1, 2),

@@ -1,7 +1,7 @@
 /*
  * Tests the boundary between a host in C and the library: the layout, bad pointers and numbers, records that aren't sound, what calls write, tables
- * of calls, hosts/runs through the header, and the recording of calls. `boundary FOLDER` reads the runs from that folder. The last line is 'N checks,
- * M failed'; the exit status is 1 where one failed.
+ * of calls, hosts/runs through the header, the recording of calls, and the replay of a recording in blocks. `boundary RUNS TRACES` reads the runs and
+ * the stored traces from these folders. The last line is 'N checks, M failed'; the exit status is 1 where one failed.
  */
 #define _DEFAULT_SOURCE /* for mmap and sigaction, which C11 alone doesn't have */
 #include <inttypes.h>
@@ -1574,6 +1574,553 @@ static void test_random_traces(void)
     check(twin.waits > 0, "calls wait");
 }
 
+/* ---- The replay of a recording in blocks ---- */
+
+/* More than two records. */
+enum { MOST_BYTES = 2 * LINGUASTEL_TRACE_SIZE + 6 };
+
+/* Bytes 0 are those of a tick that ended no wait; bytes 255 are those of a record that isn't run. */
+static uint8_t ticks[MOST_BYTES], not_run[MOST_BYTES];
+
+static void make_blocks(void)
+{
+    memset(ticks, 0, sizeof ticks);
+    memset(not_run, 0xff, sizeof not_run);
+}
+
+/* Every byte of a replay belongs to a field. */
+static bool same_replay(const LinguastelReplay *x, const LinguastelReplay *y)
+{
+    return memcmp(x, y, sizeof *x) == 0;
+}
+
+static bool same_line(LinguastelLine x, LinguastelLine y)
+{
+    return memcmp(&x, &y, sizeof x) == 0;
+}
+
+/* Nothing is said of the part's other bytes. */
+static bool same_numbers_and_part(const LinguastelReplay *x, const LinguastelReplay *y)
+{
+    bool same = x->records == y->records && x->differ == y->differ && x->first == y->first && x->length == y->length;
+    return same && memcmp(x->part, y->part, x->length) == 0;
+}
+
+static LinguastelLine line_of(const LinguastelReplay *replay)
+{
+    return (LinguastelLine){ .records = replay->records, .differ = replay->differ, .first = replay->first, .tail = replay->length };
+}
+
+/* The end gives the replay's own numbers and leaves every byte. */
+static void check_ends(const LinguastelReplay *replay, const char *what)
+{
+    LinguastelReplay lent = *replay;
+    check(same_line(linguastel_replay_end(&lent), line_of(replay)), what);
+    check(same_replay(&lent, replay), what);
+}
+
+/* Refused with this code: the replay, which may only be read here, keeps every byte. */
+static void check_block_refused(const LinguastelReplay *content, const uint8_t *block, size_t size, int32_t code, const char *what)
+{
+    LinguastelReplay *lent = lend(record_page, AT_END, PROT_READ, content, sizeof *content);
+    check(linguastel_replay_feed(lent, block, size) == code, what);
+    check(same_replay(lent, content), what);
+}
+
+/* A replay of the typical record: the next tick ends no wait. */
+static void make_replay(LinguastelReplay *replay)
+{
+    fill_with_noise(replay, sizeof *replay);
+    linguastel_replay_empty(replay);
+    make_typical(&replay->kernel);
+}
+
+/* What the same bytes come to by single calls. Item 3's rules, with the answers of linguastel_call. */
+static void play_singly(LinguastelReplay *twin, const uint8_t *bytes, size_t size)
+{
+    size_t at = 0;
+    for (; size - at >= LINGUASTEL_TRACE_SIZE; at += LINGUASTEL_TRACE_SIZE) {
+        const uint8_t *one = bytes + at;
+        bool spare_are_zero = one[17] == 0 && one[18] == 0 && one[19] == 0 && one[31] == 0;
+        bool runs = one[0] <= LINGUASTEL_LAST_CALL && one[2] <= 3 && one[16] <= LINGUASTEL_WAITS && spare_are_zero;
+        bool same = runs && is_answer_in(one, linguastel_call(&twin->kernel, call_in(one)));
+        twin->records++;
+        twin->differ += !same;
+        twin->first = !same && twin->first == 0 ? twin->records : twin->first;
+    }
+    twin->length = size - at;
+    memcpy(twin->part, bytes + at, size - at);
+}
+
+/* Noise where nothing is said: in unused fields of the record, and behind the part. */
+static void spoil_replay(LinguastelReplay *replay)
+{
+    spoil_unused(&replay->kernel);
+    fill_with_noise(replay->part + replay->length, sizeof replay->part - replay->length);
+}
+
+/* How the bytes are cut. */
+typedef size_t Cut(size_t left);
+
+static size_t at_once(size_t left)
+{
+    return left;
+}
+
+static size_t byte_by_byte(size_t left)
+{
+    return left < 1 ? left : 1;
+}
+
+/* Often less than a record, at times nothing. */
+static size_t few_bytes(size_t left)
+{
+    size_t size = noise_below(71);
+    return size < left ? size : left;
+}
+
+static size_t many_bytes(size_t left)
+{
+    size_t size = noise_below(4001);
+    return size < left ? size : left;
+}
+
+static Cut *const cuts[] = { at_once, byte_by_byte, few_bytes, many_bytes };
+
+/* All bytes, with an empty block before each of the others at times. The end may be asked between blocks: it tells how many bytes there were. */
+static void feed_all(LinguastelReplay *replay, const uint8_t *bytes, size_t size, Cut *cut, bool spoil, const char *what)
+{
+    for (size_t at = 0; at < size;) {
+        size_t next = cut(size - at);
+        if (spoil) {
+            spoil_replay(replay);
+        }
+        if (noise_below(8) == 0) {
+            LinguastelReplay before = *replay;
+            check(linguastel_replay_feed(replay, bytes + at, 0) == LINGUASTEL_E_OK, what);
+            check(same_numbers_and_part(replay, &before), what);
+        }
+        check(linguastel_replay_feed(replay, bytes + at, next) == LINGUASTEL_E_OK, what);
+        at += next;
+        if (noise_below(8) == 0) {
+            check(replay->records == at / LINGUASTEL_TRACE_SIZE && replay->length == at % LINGUASTEL_TRACE_SIZE, what);
+            check_ends(replay, what);
+        }
+    }
+}
+
+/* The bytes in each way, from the empty state. Without noise the record is that of single calls, byte for byte. Gives the line. */
+static LinguastelLine check_all_cuts(const uint8_t *bytes, size_t size, const char *what)
+{
+    LinguastelReplay twin, replay;
+    linguastel_replay_empty(&twin);
+    play_singly(&twin, bytes, size);
+    for (size_t i = 0; i < 2 * LENGTH(cuts); i++) {
+        bool spoil = i >= LENGTH(cuts);
+        fill_with_noise(&replay, sizeof replay);
+        paint_stack(paints[i % 2]);
+        linguastel_replay_empty(&replay);
+        feed_all(&replay, bytes, size, cuts[i % LENGTH(cuts)], spoil, what);
+        check(same_numbers_and_part(&replay, &twin), what);
+        check(spoil ? linguastel_sound(&replay.kernel) : same_record(&replay.kernel, &twin.kernel), what);
+        check_ends(&replay, what);
+    }
+    return line_of(&twin);
+}
+
+/* ---- Groups: replays ---- */
+
+static void test_replay_layout(void)
+{
+    check(linguastel_replay_size() == sizeof(LinguastelReplay), "the library's size of a replay");
+    check(linguastel_replay_size() == LINGUASTEL_REPLAY_SIZE, "the named size");
+    check(linguastel_replay_align() == _Alignof(LinguastelReplay), "the library's alignment of a replay");
+    check(linguastel_replay_align() == LINGUASTEL_REPLAY_ALIGN, "the named alignment");
+}
+
+static void test_new_replay(void)
+{
+    LinguastelRecord record;
+    LinguastelReplay replay, twin;
+    linguastel_empty(&record);
+    memset(&replay, 0x11, sizeof replay);
+    memset(&twin, 0xee, sizeof twin);
+    paint_stack(paints[0]);
+    linguastel_replay_empty(&replay);
+    paint_stack(paints[1]);
+    linguastel_replay_empty(&twin);
+    check(same_replay(&replay, &twin), "whatever its bytes were");
+    check(same_record(&replay.kernel, &record), "the kernel's state is the empty one");
+    check(same_line(linguastel_replay_end(&replay), (LinguastelLine){ 0 }), "the line: zeros with E_OK");
+    check(linguastel_replay_feed(&replay, ticks, 0) == LINGUASTEL_E_OK, "a block of no bytes");
+    check(same_line(linguastel_replay_end(&replay), (LinguastelLine){ 0 }), "the line after it");
+}
+
+static const char *traces;
+
+/* What the file has; its size, or 0 where it can't be read. */
+static size_t read_trace(const char *name, const char *kind, void *bytes, size_t room)
+{
+    char path[512];
+    snprintf(path, sizeof path, "%s/%s.%s", traces, name, kind);
+    FILE *file = fopen(path, "rb");
+    check(file != NULL, path);
+    size_t size = file != NULL ? fread(bytes, 1, room, file) : 0;
+    check(file != NULL && feof(file) && !ferror(file), path);
+    if (file != NULL) {
+        fclose(file);
+    }
+    return size;
+}
+
+/* They have records that differ or aren't run, wide and signed fields, waits, and bytes after the last whole record. */
+static const char *const stored[] = {
+    "empty", "one-record", "three-records", "tail-alone", "tail-1", "tail-31", "bad", "each-byte-of-an-answer", "not-run-call-24", "not-run-call-255",
+    "not-run-flags-in-call", "not-run-flags-in-tick", "not-run-kind-2", "not-run-spare-17", "not-run-spare-18", "not-run-spare-19", "not-run-spare-31",
+    "other-kind", "run-10", "signed-fields", "unused-fields", "waits-with-words", "wide-fields", "wide-words", "calls-1", "recorded-5",
+};
+
+static void test_stored_traces(void)
+{
+    static uint8_t bytes[65536];
+    for (size_t i = 0; i < LENGTH(stored); i++) {
+        char expected[128] = "", text[128];
+        size_t size = read_trace(stored[i], "bin", bytes, sizeof bytes);
+        read_trace(stored[i], "line", expected, sizeof expected - 1);
+        LinguastelLine line = check_all_cuts(bytes, size, stored[i]);
+        snprintf(text, sizeof text, "records %" PRIu64 " differ %" PRIu64 " first %" PRIu64 " tail %" PRIu64 "\n", line.records, line.differ,
+            line.first, line.tail);
+        check(strcmp(text, expected) == 0, stored[i]);
+    }
+}
+
+/* Calls drawn at random, recorded; in one record of eight a byte is another one afterwards. */
+static void test_random_replays(void)
+{
+    static uint8_t bytes[300 * LINGUASTEL_TRACE_SIZE + 31];
+    unsigned differ = 0, tails = 0;
+    for (unsigned i = 0; i < 40; i++) {
+        LinguastelRecord record;
+        size_t size = 0, room = sizeof bytes - noise_below(32) - LINGUASTEL_TRACE_SIZE;
+        linguastel_empty(&record);
+        while (size < room) {
+            LinguastelCall call = random_wide_call();
+            size_t added = linguastel_trace(bytes + size, call, linguastel_call(&record, call));
+            if (added > 0 && noise_below(8) == 0) {
+                bytes[size + noise_below(LINGUASTEL_TRACE_SIZE)] ^= (uint8_t)(1u << noise_below(8));
+            }
+            size += added;
+        }
+        LinguastelLine line = check_all_cuts(bytes, size - noise_below(32), "a random recording");
+        differ += line.differ > 0;
+        tails += line.tail > 0;
+    }
+    check(differ > 0 && tails > 0, "records differ, and bytes are left over");
+}
+
+static const size_t sizes[] = { 0, 1, 31, 32, 33, 63, 64, 65, MOST_BYTES };
+
+/* E_SYS at every block and at the end, there with four zeros; every byte stays. */
+static void check_replay_refused(const LinguastelReplay *replay, const char *what)
+{
+    for (size_t i = 0; i < LENGTH(sizes); i++) {
+        check_block_refused(replay, ticks, sizes[i], LINGUASTEL_E_SYS, what);
+        check_block_refused(replay, not_run, sizes[i], LINGUASTEL_E_SYS, what);
+    }
+    LinguastelReplay lent = *replay;
+    check(same_line(linguastel_replay_end(&lent), (LinguastelLine){ .code = LINGUASTEL_E_SYS }), what);
+    check(same_replay(&lent, replay), what);
+}
+
+typedef struct {
+    uint64_t records, differ, first, length;
+    const char *what;
+} Numbers;
+
+static void set_numbers(LinguastelReplay *replay, const Numbers *row)
+{
+    replay->records = row->records;
+    replay->differ = row->differ;
+    replay->first = row->first;
+    replay->length = row->length;
+    fill_with_noise(replay->part, sizeof replay->part);
+}
+
+/* In 32 bits, 4294967296 and 4294967297 would be 0 and 1. */
+static const Numbers refused_numbers[] = {
+    { 5, 2, 3, 32, "a part of 32 bytes" },
+    { 0, 0, 0, 32, "a part of 32 bytes, before the first record" },
+    { 5, 2, 3, 33, "a part of 33 bytes" },
+    { 5, 2, 3, 64, "a part of 64 bytes" },
+    { 5, 2, 3, 256, "a part of 256 bytes" },
+    { 5, 2, 3, 4294967296, "a part of 4294967296 bytes" },
+    { 5, 2, 3, UINT64_MAX, "a part of all bits" },
+    { 5, 6, 3, 0, "differ just above records" },
+    { 5, 4294967297, 3, 0, "differ far above records" },
+    { 5, UINT64_MAX, 3, 0, "differ of all bits" },
+    { UINT64_MAX - 1, UINT64_MAX, 3, 0, "differ above the largest records but one" },
+    { 5, 2, 6, 0, "first just above records" },
+    { 5, 2, 4294967297, 0, "first far above records" },
+    { 5, 2, UINT64_MAX, 0, "first of all bits" },
+    { UINT64_MAX - 1, 3, UINT64_MAX, 0, "first above the largest records but one" },
+    { 0, 1, 1, 0, "differ and first above no records" },
+    { 5, 1, 0, 0, "differ 1 and no first" },
+    { 5, 5, 0, 0, "differ as large as records and no first" },
+    { 4294967296, 4294967296, 0, 0, "differ 4294967296 and no first" },
+    { 5, 0, 1, 0, "first 1 and none differs" },
+    { 5, 0, 5, 0, "first as large as records and none differs" },
+    { 4294967296, 0, 4294967296, 0, "first 4294967296 and none differs" },
+    { UINT64_MAX, 2, 3, 32, "E_SYS by the part, before E_PAR" },
+    { UINT64_MAX, 1, 0, 31, "E_SYS by differ alone, before E_PAR" },
+    { UINT64_MAX, 0, 1, 31, "E_SYS by first alone, before E_PAR" },
+};
+
+/* Each rule by itself, with the nearest numbers that it refuses. */
+static void test_replay_numbers_refused(void)
+{
+    LinguastelReplay replay;
+    make_replay(&replay);
+    for (size_t i = 0; i < LENGTH(refused_numbers); i++) {
+        set_numbers(&replay, &refused_numbers[i]);
+        check_replay_refused(&replay, refused_numbers[i].what);
+        spoil_unused(&replay.kernel);
+    }
+}
+
+/* All numbers are right, and just the kernel's state isn't; with the most records E_SYS comes before E_PAR. */
+static void test_replay_of_unsound_records(void)
+{
+    LinguastelReplay typical, replay;
+    make_replay(&typical);
+    set_numbers(&typical, &(Numbers){ 5, 2, 3, 31, "" });
+    for (size_t i = 0; i < LENGTH(faults); i++) {
+        replay = typical;
+        ((uint8_t *)&replay.kernel)[faults[i].offset] = faults[i].value;
+        check_replay_refused(&replay, faults[i].what);
+        replay.records = UINT64_MAX;
+        check_replay_refused(&replay, faults[i].what);
+    }
+    for (int i = 0; i < 50; i++) {
+        fill_with_noise(&replay.kernel, sizeof replay.kernel);
+        check_replay_refused(&replay, "a kernel state of random bytes");
+        fill_with_noise(&replay, sizeof replay);
+        check_replay_refused(&replay, "a replay of random bytes");
+    }
+}
+
+/* Nothing more is asked, though no recording leads to some of these. */
+static const Numbers let_through[] = {
+    { 0, 0, 0, 0, "no record" },
+    { 0, 0, 0, 31, "no record, and a part of 31 bytes" },
+    { 5, 0, 0, 31, "a part of 31 bytes" },
+    { 5, 2, 5, 0, "two differ, and the last is the first of them" },
+    { 5, 5, 1, 1, "all differ" },
+    { 5, 5, 5, 1, "all differ, and the last is the first of them" },
+    { 5, 1, 1, 30, "the first record differs" },
+    { 5, 1, 5, 30, "the last record differs" },
+    { 1, 1, 1, 31, "the only record differs" },
+    { 4294967296, 1, 1, 31, "records that are 0 in 32 bits" },
+    { 4294967296, 4294967296, 4294967296, 31, "numbers that are 0 in 32 bits" },
+    { UINT64_MAX - 3, UINT64_MAX - 3, UINT64_MAX - 3, 31, "the largest numbers but three" },
+};
+
+/* The bytes behind the part are those of ticks, or of records that aren't run; so are those of the part. */
+static void check_let_through(const LinguastelReplay *content, const Numbers *row, const uint8_t *bytes, size_t size)
+{
+    LinguastelReplay replay = *content, twin;
+    memcpy(replay.part, bytes, row->length);
+    twin = replay;
+    check_ends(&replay, row->what);
+    uint8_t whole[LINGUASTEL_TRACE_SIZE + MOST_BYTES];
+    memcpy(whole, replay.part, row->length);
+    memcpy(whole + row->length, bytes, size);
+    play_singly(&twin, whole, row->length + size);
+    check(linguastel_replay_feed(&replay, bytes, size) == LINGUASTEL_E_OK, row->what);
+    check(same_numbers_and_part(&replay, &twin), row->what);
+    check(same_record(&replay.kernel, &twin.kernel), row->what);
+    check_ends(&replay, row->what);
+}
+
+static void test_replay_numbers_let_through(void)
+{
+    LinguastelReplay replay;
+    make_replay(&replay);
+    for (size_t i = 0; i < LENGTH(let_through); i++) {
+        set_numbers(&replay, &let_through[i]);
+        for (size_t k = 0; k < LENGTH(sizes); k++) {
+            check_let_through(&replay, &let_through[i], ticks, sizes[k]);
+            check_let_through(&replay, &let_through[i], not_run, sizes[k]);
+        }
+    }
+}
+
+/* With so many records to go, and every part, blocks of every length: E_PAR exactly where there is a record too many. */
+static void check_room(LinguastelReplay *content, uint64_t room)
+{
+    for (size_t size = 0; size <= MOST_BYTES; size++) {
+        uint64_t added = (content->length + size) / LINGUASTEL_TRACE_SIZE;
+        if (added > room) {
+            check_block_refused(content, not_run, size, LINGUASTEL_E_PAR, "a record too many");
+            continue;
+        }
+        LinguastelReplay replay = *content;
+        check(linguastel_replay_feed(&replay, not_run, size) == LINGUASTEL_E_OK, "up to the last record");
+        check(replay.records == content->records + added && replay.differ == content->differ + added, "the numbers up to the last record");
+        check(replay.first == content->first && replay.length == (content->length + size) % LINGUASTEL_TRACE_SIZE, "first and the part");
+        check(same_record(&replay.kernel, &content->kernel), "the kernel's state after records that aren't run");
+        check_ends(&replay, "the line up to the last record");
+    }
+}
+
+static void test_most_records(void)
+{
+    LinguastelReplay replay;
+    make_replay(&replay);
+    for (uint64_t room = 0; room <= 3; room++) {
+        for (uint64_t length = 0; length < LINGUASTEL_TRACE_SIZE; length++) {
+            set_numbers(&replay, &(Numbers){ UINT64_MAX - room, UINT64_MAX - room, 1, length, "" });
+            check_room(&replay, room);
+        }
+    }
+    set_numbers(&replay, &(Numbers){ UINT64_MAX - 1, 0, 0, 0, "" });
+    check(linguastel_replay_feed(&replay, not_run, LINGUASTEL_TRACE_SIZE) == LINGUASTEL_E_OK, "the last record");
+    LinguastelLine line = { .records = UINT64_MAX, .differ = 1, .first = UINT64_MAX };
+    check(same_line(linguastel_replay_end(&replay), line), "the line where the last record is the first that differs");
+    check(linguastel_replay_feed(&replay, ticks, 31) == LINGUASTEL_E_OK, "bytes that complete nothing");
+    check_block_refused(&replay, ticks, 1, LINGUASTEL_E_PAR, "one byte that completes a record");
+    check_block_refused(&replay, ticks, MOST_BYTES, LINGUASTEL_E_PAR, "more bytes than that");
+    check(linguastel_replay_feed(&replay, ticks, 0) == LINGUASTEL_E_OK, "a block of no bytes");
+    line.tail = 31;
+    check(same_line(linguastel_replay_end(&replay), line), "the line with the part");
+}
+
+/* A replay and a block, each at the edge of a page. */
+typedef struct {
+    LinguastelReplay *replay;
+    const uint8_t *block;
+    size_t size;
+    int32_t code;
+    LinguastelLine line;
+} LentReplay;
+
+static void feed_lent(void *with)
+{
+    LentReplay *lent = with;
+    lent->code = linguastel_replay_feed(lent->replay, lent->block, lent->size);
+}
+
+static void end_lent(void *with)
+{
+    LentReplay *lent = with;
+    lent->line = linguastel_replay_end(lent->replay);
+}
+
+/* The block may only be read; for the end so may the replay. */
+static LentReplay lend_replay(const LinguastelReplay *replay, const uint8_t *block, size_t size, Place place, int access)
+{
+    return (LentReplay){
+        .replay = lend(record_page, place, access, replay, sizeof *replay),
+        .block = lend(calls_page, place, PROT_READ, block, size),
+        .size = size,
+    };
+}
+
+static void test_replay_edges(void)
+{
+    LinguastelReplay replay;
+    make_replay(&replay);
+    set_numbers(&replay, &(Numbers){ 5, 2, 3, 7, "" });
+    for (size_t size = 0; size <= MOST_BYTES; size++) {
+        for (Place place = AT_START; place <= AT_END; place++) {
+            LentReplay lent = lend_replay(&replay, not_run, size, place, PROT_READ | PROT_WRITE);
+            check(!is_caught(feed_lent, &lent), "no memory is touched but what is lent");
+            check(lent.code == LINGUASTEL_E_OK && lent.replay->records == 5 + (7 + size) / LINGUASTEL_TRACE_SIZE, "a block at the edge of a page");
+        }
+    }
+    for (Place place = AT_START; place <= AT_END; place++) {
+        LentReplay lent = lend_replay(&replay, not_run, 0, place, PROT_READ);
+        check(!is_caught(end_lent, &lent), "the end only reads");
+        check(same_line(lent.line, line_of(&replay)), "the line of a replay that may only be read");
+    }
+    LentReplay short_of_bytes = lend_replay(&replay, not_run, 40, AT_END, PROT_READ | PROT_WRITE);
+    short_of_bytes.size++;
+    check(is_caught(feed_lent, &short_of_bytes), "a byte that isn't lent is caught");
+}
+
+static void test_replay_neighbours(void)
+{
+    static struct {
+        uint8_t before[256];
+        LinguastelReplay replay;
+        uint8_t after[256];
+    } memory;
+    memset(&memory, 0xA5, sizeof memory);
+    linguastel_replay_empty(&memory.replay);
+    for (size_t i = 0; i < LENGTH(sizes); i++) {
+        linguastel_replay_feed(&memory.replay, ticks, sizes[i]);
+        linguastel_replay_feed(&memory.replay, not_run, sizes[i]);
+        linguastel_replay_end(&memory.replay);
+    }
+    memory.replay.length = 32;
+    linguastel_replay_feed(&memory.replay, ticks, 1);
+    check(all_are(memory.before, sizeof memory.before, 0xA5), "the bytes before the replay");
+    check(all_are(memory.after, sizeof memory.after, 0xA5), "the bytes after the replay");
+}
+
+/* With this pointer, which leads to no replay. */
+static void check_no_replay(LinguastelReplay *pointer)
+{
+    check(!linguastel_guarded_replay_empty(pointer), "empty");
+    check(linguastel_guarded_replay_feed(pointer, ticks, 1) == LINGUASTEL_E_SYS, "a block");
+    check(linguastel_guarded_replay_feed(pointer, ticks, 0) == LINGUASTEL_E_SYS, "a block of no bytes");
+    check(linguastel_guarded_replay_feed(pointer, NULL, 0) == LINGUASTEL_E_SYS, "a block of no bytes, at no address");
+    check(linguastel_guarded_replay_feed(pointer, NULL, 1) == LINGUASTEL_E_SYS, "a block at no address");
+    check(same_line(linguastel_guarded_replay_end(pointer), (LinguastelLine){ .code = LINGUASTEL_E_SYS }), "the end");
+}
+
+/* Behind a misaligned pointer stands a replay that is let through, so that nothing but the pointer is wrong. */
+static void test_replay_pointers(void)
+{
+    static _Alignas(LinguastelReplay) uint8_t memory[LINGUASTEL_REPLAY_SIZE + LINGUASTEL_REPLAY_ALIGN];
+    static uint8_t before[sizeof memory];
+    LinguastelReplay replay;
+    make_replay(&replay);
+    check_no_replay(NULL);
+    for (size_t offset = 1; offset < LINGUASTEL_REPLAY_ALIGN; offset++) {
+        memcpy(memory + offset, &replay, sizeof replay);
+        memcpy(before, memory, sizeof memory);
+        check_no_replay((LinguastelReplay *)(void *)(memory + offset));
+        check(memcmp(memory, before, sizeof memory) == 0, "no memory is touched");
+    }
+}
+
+/* A block may stand at any address; at none it has no bytes. */
+static void test_block_pointers(void)
+{
+    LinguastelReplay replay, content;
+    make_replay(&replay);
+    set_numbers(&replay, &(Numbers){ 5, 2, 3, 7, "" });
+    content = replay;
+    check(linguastel_guarded_replay_feed(&replay, NULL, 1) == LINGUASTEL_E_PAR, "a block at no address");
+    check(linguastel_guarded_replay_feed(&replay, NULL, SIZE_MAX) == LINGUASTEL_E_PAR, "a long block at no address");
+    check(same_replay(&replay, &content), "the replay of a block at no address");
+    check(linguastel_guarded_replay_feed(&replay, NULL, 0) == LINGUASTEL_E_OK, "a block of no bytes, at no address");
+    check(same_numbers_and_part(&replay, &content), "the replay of a block of no bytes");
+    for (size_t offset = 0; offset < 8; offset++) {
+        replay = content;
+        check(linguastel_guarded_replay_feed(&replay, not_run + offset, 25) == LINGUASTEL_E_OK, "a block at any address");
+        LinguastelLine line = { .records = 6, .differ = 3, .first = 3 };
+        check(same_line(linguastel_guarded_replay_end(&replay), line), "the line of a block at any address");
+    }
+    content.length = 32;
+    replay = content;
+    check(linguastel_guarded_replay_feed(&replay, NULL, 1) == LINGUASTEL_E_SYS, "E_SYS before E_PAR");
+    check(linguastel_guarded_replay_feed(&replay, NULL, 0) == LINGUASTEL_E_SYS, "E_SYS with a block of no bytes, at no address");
+    check(same_line(linguastel_guarded_replay_end(&replay), (LinguastelLine){ .code = LINGUASTEL_E_SYS }), "E_SYS at the end");
+    check(same_replay(&replay, &content), "the replay that isn't let through");
+    check(linguastel_guarded_replay_empty(&replay) && replay.records == 0 && replay.length == 0, "a new replay");
+}
+
 /* ---- All groups ---- */
 
 static const struct {
@@ -1609,11 +2156,25 @@ static const struct {
     { "the bytes of a tick", test_trace_tick },
     { "the bytes of a table", test_trace_table },
     { "random calls, recorded and replayed", test_random_traces },
+    { "size and alignment of a replay", test_replay_layout },
+    { "a new replay", test_new_replay },
+    { "stored traces, cut anywhere", test_stored_traces },
+    { "random recordings, cut anywhere", test_random_replays },
+    { "replays with numbers that are refused", test_replay_numbers_refused },
+    { "replays with a record that isn't sound", test_replay_of_unsound_records },
+    { "replays with numbers that are let through", test_replay_numbers_let_through },
+    { "the most records of a replay", test_most_records },
+    { "replays and blocks at the edge of a page", test_replay_edges },
+    { "bytes before and after a replay", test_replay_neighbours },
+    { "null and misaligned replays", test_replay_pointers },
+    { "blocks at no address and at odd ones", test_block_pointers },
 };
 
 int main(int count, char **arguments)
 {
     folder = count > 1 ? arguments[1] : "hosts/runs";
+    traces = count > 2 ? arguments[2] : "compare/corpus";
+    make_blocks();
     record_page = new_page();
     calls_page = new_page();
     cells_page = new_page();

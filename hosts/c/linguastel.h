@@ -1,21 +1,24 @@
 /*
- * Linguastel for hosts in C11: the state record, the 23 calls, the tick, tables of calls, and the recording of calls. Documents 01 and 02 say what each of
- * them does; their words are used here.
+ * Linguastel for hosts in C11: the state record, the 23 calls, the tick, tables of calls, the recording of calls, and the replay of a recording in
+ * blocks. Documents 01 and 02 say what each of them does; their words are used here.
  *
- * The library is two archives, for x86-64 and the System V calling convention. `rt staticlib linguastel` proves and writes
- * target/staticlib/liblinguastel.a, `rt staticlib linguastel_table` target/staticlib/liblinguastel_table.a. Link the second too where linguastel_table,
- * or its guarded form, is used; it has that function alone.
+ * The library is three archives, for x86-64 and the System V calling convention. `rt staticlib linguastel` proves and writes
+ * target/staticlib/liblinguastel.a, `rt staticlib linguastel_table` target/staticlib/liblinguastel_table.a, `rt staticlib linguastel_replay`
+ * target/staticlib/liblinguastel_replay.a. Link the second too where linguastel_table, or its guarded form, is used; it has that function alone. Link the
+ * third too where a function with linguastel_replay_ in its name, or its guarded form, is used; it has these alone.
  *
- * The kernel's promise covers a record of any bytes, a call with any numbers and tables of any length. Some things no function can test, so they are the
- * host's part:
+ * The kernel's promise covers a record of any bytes, a call with any numbers and tables of any length, and also a replay of any bytes and a block of any
+ * bytes and any length. Some things no function can test, so they are the host's part:
  *
- *   - The pointer leads to a whole record, LINGUASTEL_RECORD_SIZE bytes that may be read and written.
- *   - Tables are whole: call_count calls that may be read, answer_count answer cells that may be written.
- *   - The two tables and the record don't overlap.
+ *   - The pointer leads to a whole record, LINGUASTEL_RECORD_SIZE bytes that may be read and written, or to a whole replay, LINGUASTEL_REPLAY_SIZE of them.
+ *   - Tables are whole: call_count calls that may be read, answer_count answer cells that may be written. So are blocks: size bytes that may be read.
+ *   - The two tables and the record don't overlap, nor do a block and the replay.
  *   - Calls on one record are made one after the other: a call has returned before the next one starts, in an interrupt handler too. In this list a table
- *     counts as one call.
- *   - During a call no other thread, handler or device reads or writes the record or the tables, and no other pointer is used for them.
- *   - Each call gets the record as the call before it left it, and not an older copy.
+ *     counts as one call, and so does a block on a replay.
+ *   - During a call no other thread, handler or device reads or writes the record, the replay, the tables or the block, and no other pointer is used for
+ *     them.
+ *   - Each call gets the record as the call before it left it, and not an older copy. Each block gets the replay as the block before it left it.
+ *   - The blocks of a replay are the bytes of one recording, all of them, in their order.
  *   - The context is true: who calls, and whether the CPU is locked or dispatching disabled.
  *   - Arguments fit their 32 bits. C cuts a wider number down before the kernel sees it; gcc and clang warn of that with -Wconversion.
  */
@@ -41,7 +44,9 @@ enum {
     LINGUASTEL_TABLE = 64, /* the most calls of a table */
     LINGUASTEL_TRACE_SIZE = 32, /* the bytes of one call with its answer in a trace */
     LINGUASTEL_RECORD_SIZE = 2232,
-    LINGUASTEL_RECORD_ALIGN = 4
+    LINGUASTEL_RECORD_ALIGN = 4,
+    LINGUASTEL_REPLAY_SIZE = 2296,
+    LINGUASTEL_REPLAY_ALIGN = 8
 };
 
 enum {
@@ -194,6 +199,33 @@ typedef struct {
     bool disabled;
 } LinguastelContext;
 
+/* ---- A replay and its line ---- */
+
+/*
+ * What the replay of a recording keeps between two blocks. A host may read it there. What it writes is taken as it is, if the kernel's state is then sound,
+ * length is at most 31, differ and first are at most records, and both of these are 0 or none is; else feed and end answer E_SYS.
+ *
+ * Every byte belongs to a field, so that replays can be copied and compared as bytes.
+ */
+typedef struct {
+    uint64_t records; /* the whole records so far */
+    uint64_t differ; /* so many of them differ */
+    uint64_t first; /* the first of these, counted from 1; 0 where there is none */
+    uint64_t length; /* so many bytes follow the last whole record: 0 to 31 */
+    LinguastelRecord kernel; /* the kernel's state after the whole records */
+    uint8_t part[LINGUASTEL_TRACE_SIZE]; /* its first length bytes are those that follow; the others say nothing */
+} LinguastelReplay;
+
+/* The line of a recording: the numbers that the program replay prints, and the code. */
+typedef struct {
+    uint64_t records;
+    uint64_t differ;
+    uint64_t first;
+    uint64_t tail; /* the bytes after the last whole record */
+    int32_t code;
+    uint32_t spare; /* always 0 */
+} LinguastelLine;
+
 /* ---- The layout: the library was compiled for these places ---- */
 
 #define LINGUASTEL_SIZE(type, field) sizeof(((type *)0)->field)
@@ -281,11 +313,31 @@ LINGUASTEL_LAYOUT(LinguastelAnswer, 24, 4,
     LINGUASTEL_SIZE(LinguastelAnswer, kind) + LINGUASTEL_SIZE(LinguastelAnswer, code) + LINGUASTEL_SIZE(LinguastelAnswer, place)
         + LINGUASTEL_SIZE(LinguastelAnswer, a) + LINGUASTEL_SIZE(LinguastelAnswer, b) + LINGUASTEL_SIZE(LinguastelAnswer, c));
 
+LINGUASTEL_FIELD(LinguastelReplay, records, 0, 8);
+LINGUASTEL_FIELD(LinguastelReplay, differ, 8, 8);
+LINGUASTEL_FIELD(LinguastelReplay, first, 16, 8);
+LINGUASTEL_FIELD(LinguastelReplay, length, 24, 8);
+LINGUASTEL_FIELD(LinguastelReplay, kernel, 32, 2232);
+LINGUASTEL_FIELD(LinguastelReplay, part, 2264, 32);
+LINGUASTEL_LAYOUT(LinguastelReplay, 2296, 8,
+    LINGUASTEL_SIZE(LinguastelReplay, records) + LINGUASTEL_SIZE(LinguastelReplay, differ) + LINGUASTEL_SIZE(LinguastelReplay, first)
+        + LINGUASTEL_SIZE(LinguastelReplay, length) + LINGUASTEL_SIZE(LinguastelReplay, kernel) + LINGUASTEL_SIZE(LinguastelReplay, part));
+
+LINGUASTEL_FIELD(LinguastelLine, records, 0, 8);
+LINGUASTEL_FIELD(LinguastelLine, differ, 8, 8);
+LINGUASTEL_FIELD(LinguastelLine, first, 16, 8);
+LINGUASTEL_FIELD(LinguastelLine, tail, 24, 8);
+LINGUASTEL_FIELD(LinguastelLine, code, 32, 4);
+LINGUASTEL_FIELD(LinguastelLine, spare, 36, 4);
+LINGUASTEL_LAYOUT(LinguastelLine, 40, 8,
+    LINGUASTEL_SIZE(LinguastelLine, records) + LINGUASTEL_SIZE(LinguastelLine, differ) + LINGUASTEL_SIZE(LinguastelLine, first)
+        + LINGUASTEL_SIZE(LinguastelLine, tail) + LINGUASTEL_SIZE(LinguastelLine, code) + LINGUASTEL_SIZE(LinguastelLine, spare));
+
 #undef LINGUASTEL_SIZE
 #undef LINGUASTEL_LAYOUT
 #undef LINGUASTEL_FIELD
 
-/* ---- The library's functions: the pointers must be those of a record and of tables ---- */
+/* ---- The library's functions: the pointers must be those of a record and of tables, or of a replay and of a block ---- */
 
 size_t linguastel_record_size(void);
 size_t linguastel_record_align(void);
@@ -308,6 +360,31 @@ LinguastelAnswer linguastel_call(LinguastelRecord *record, LinguastelCall call);
  * second caller of the step in one archive would make both dearer.
  */
 int32_t linguastel_table(LinguastelRecord *record, const LinguastelCall *calls, size_t call_count, LinguastelAnswer *answers, size_t answer_count);
+
+/* The replay of a recording in blocks (document 02, item 5). These five functions have an archive of their own, for the same reason. */
+
+size_t linguastel_replay_size(void);
+size_t linguastel_replay_align(void);
+
+/* Makes this a new replay, whatever its bytes were: the kernel's state is the empty one, at counter 0, and nothing is counted. */
+void linguastel_replay_empty(LinguastelReplay *replay);
+
+/*
+ * The next block of the recording, of any length, also of no bytes. E_OK: its bytes follow those before them, and the whole records are replayed. However
+ * the recording is cut into blocks, numbers and kernel state come to those of the whole recording.
+ *
+ * E_SYS: the kernel's state isn't sound, length is above 31, differ or first is above records, or only one of these two is 0. Then E_PAR: the block would
+ * take records past 64 bits. Either way nothing is done, and nothing is written into the replay.
+ *
+ * The pointer of the block isn't null even where size is 0; linguastel_guarded_replay_feed takes null there.
+ */
+int32_t linguastel_replay_feed(LinguastelReplay *replay, const uint8_t *block, size_t size);
+
+/*
+ * The line of the bytes so far, with E_OK; or E_SYS as above, with four zeros. It only reads the replay, so it may be asked between blocks, and more
+ * blocks may follow.
+ */
+LinguastelLine linguastel_replay_end(const LinguastelReplay *replay);
 
 /* The tick has no context. It is no function of the library: one that called the step from a second place would make both dearer. */
 static inline LinguastelAnswer linguastel_tick(LinguastelRecord *record)
@@ -396,6 +473,46 @@ static inline int32_t linguastel_guarded_table(
     return linguastel_table(record, calls != NULL ? calls : &no_call, call_count, answers != NULL ? answers : &no_answer, answer_count);
 }
 
+/*
+ * Likewise for a replay: a pointer that is null or not aligned leads to none. It is answered like a replay whose kernel state isn't sound: E_SYS, at the end
+ * with four zeros. No memory is touched.
+ */
+static inline bool linguastel_replay_fits(const LinguastelReplay *replay)
+{
+    return replay != NULL && (uintptr_t)replay % LINGUASTEL_REPLAY_ALIGN == 0;
+}
+
+/* Whether this is a new replay now. */
+static inline bool linguastel_guarded_replay_empty(LinguastelReplay *replay)
+{
+    if (!linguastel_replay_fits(replay)) {
+        return false;
+    }
+    linguastel_replay_empty(replay);
+    return true;
+}
+
+static inline LinguastelLine linguastel_guarded_replay_end(const LinguastelReplay *replay)
+{
+    return linguastel_replay_fits(replay) ? linguastel_replay_end(replay) : (LinguastelLine){ .code = LINGUASTEL_E_SYS };
+}
+
+/*
+ * A pointer that is null with a size above 0 leads to no block. As for tables it is answered E_PAR, after the replay's test; no memory is written. Null with
+ * size 0 is a block of no bytes: the library is handed the pointer of a local, which it doesn't read. The bytes of a block may stand at any address.
+ */
+static inline int32_t linguastel_guarded_replay_feed(LinguastelReplay *replay, const uint8_t *block, size_t size)
+{
+    const uint8_t no_byte = 0;
+    if (!linguastel_replay_fits(replay)) {
+        return LINGUASTEL_E_SYS;
+    }
+    if (block == NULL && size > 0) {
+        return linguastel_replay_end(replay).code == LINGUASTEL_E_OK ? LINGUASTEL_E_PAR : LINGUASTEL_E_SYS;
+    }
+    return linguastel_replay_feed(replay, block != NULL ? block : &no_byte, size);
+}
+
 /* ---- Help for hosts ---- */
 
 /* Nothing locked, nothing disabled. */
@@ -428,7 +545,7 @@ static inline const char *linguastel_code_name(int32_t code)
     }
 }
 
-/* ---- Recording calls: traces, which the replay program reads (document 02, item 3) ---- */
+/* ---- Recording calls: traces, which the program replay and linguastel_replay_feed read (document 02, item 3) ---- */
 
 /* A trace has LINGUASTEL_TRACE_SIZE bytes for each call with its answer, and nothing else. It starts at the empty record. */
 

@@ -74,6 +74,11 @@ module _ (lent : HostRecord) (size : length (lent .tasks) ≡ 33) where
         let S′ = stays-sound (call-of c) {r = record { state = _; answer = h .answer }} (h .stepped) S in
         one-call (record { answer = h .answer; stepped = on-record S S′ (h .stepped); given-is = h .given-is }) (runs-on-record S′ rest)
 
+-- The same where the record that is lent is sound.
+pub read-back : (lent : HostRecord) → Sound (state-of lent) → {s : State} → Sound s → state-of (restored lent s) ≡ s
+unfolding state-of
+read-back lent L = held lent (sym (length-map (lent .tasks) read-task) ∙ L .readable .sizes .tasks)
+
 -- All calls of a table, from the record that is lent to the one that is written back.
 pub record-ran : {C A : Type 0} (call-of : C → Call) (answer-of : Answer → A) (lent : HostRecord) {s last : State} {calls : List C} {cells given : List A} {after : HostRecord} → s ≡ state-of lent → Sound s → after ≡ restored lent last
     → Ran (SteppedAs state-engine call-of answer-of) 0 s calls cells last given → Ran (SteppedAs host-engine call-of answer-of) 0 lent calls cells after given

@@ -1,4 +1,5 @@
 pub mod Record
+pub mod Layout
 pub mod Written
 pub mod Numbers
 pub mod Step

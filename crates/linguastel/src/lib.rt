@@ -4,7 +4,7 @@ ghost use mathlib.Core.Path.{_≡_};
 ghost use Rattle.model.specs.Rows.{empty-state};
 ghost use Rattle.host_record.specs.Record.{HostSound, meaning};
 ghost use Rattle.linguastel.specs.Called.{Called};
-ghost use Rattle.linguastel.specs.Layout.{record-size, record-align};
+ghost use Rattle.host_record.specs.Layout.{record-size, record-align};
 use host_calls::HostAnswer;
 use host_calls::HostCall;
 use host_record::HostRecord;

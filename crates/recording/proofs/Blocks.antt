@@ -1,7 +1,7 @@
 -- A file's records are the same however its bytes come in blocks, and the numbers counted one by one are the line's.
 use mathlib.Core.Path.{_≡_, refl, sym, _∙_, ap, ap₂}
 use mathlib.Core.Bool.{Bool, true, false, cond}
-use mathlib.Core.List.{List, [], _∷_, _++_, append-assoc}
+use mathlib.Core.List.{List, [], _∷_, _++_, flatten, append-assoc, append-nil}
 use Prim.Native.Nat.{ℕ, zero, suc, _+_, _*_, _/_, _<_, _≤_}
 use native.Mathlib.Nat.{add-zero, zero-add}
 use native.Mathlib.Omega.{arith}
@@ -13,7 +13,7 @@ use Rattle.rows.specs.Runs.{end, answers}
 use Rattle.rows.proofs.Runs.{end-append, answers-append}
 use Rattle.model.specs.Rows.{Model}
 use Rattle.recording.specs.Replay.{first-records, whole-records, records-of, rest-of, play, how-many, first-of, start, differing, line, replayed}
-use Rattle.recording.specs.Blocks.{Numbers, counted, all-counted, Possible, Replaying, fed, begun, CutAnywhere, AsWholeFiles}
+use Rattle.recording.specs.Blocks.{Numbers, counted, all-counted, Possible, Replaying, fed, begun, all-fed, CutAnywhere, AsWholeFile, AsWholeFiles}
 
 -- ── Records ──
 
@@ -142,9 +142,10 @@ unfolding answers
 length-answers m [] = refl
 length-answers m (r ∷ rs) = ap suc (length-answers (play m r .state) rs)
 
-pub as-whole-files : AsWholeFiles
+-- One block.
+pub as-whole-file : (bytes : List ℕ) → AsWholeFile (fed begun bytes) bytes
 unfolding fed line differing replayed
-as-whole-files bytes =
+as-whole-file bytes =
     let found = differing bytes in
     let numbers = all-counted-is (begun .numbers) found in
     let records-are = ap (λ (n : Numbers). n .records) numbers ∙ zero-add (length found) ∙ length-answers start (records-of bytes) in
@@ -224,3 +225,21 @@ counted-possible {n} true p = go (eqb (n .first) 0) refl
       none-differs = λ z. omega arith;
       some-differs = λ z. absurd (eqb-false (n .first) 0 e z);
     }
+
+-- ── Any list of blocks ──
+
+module _ (x : Replaying) where
+  -- Behind bytes that were fed.
+  all-behind : (bytes : List ℕ) (blocks : List (List ℕ)) → all-fed (fed x bytes) blocks ≡ fed x (bytes ++ flatten blocks)
+  unfolding all-fed flatten
+  all-behind bytes [] = ap (fed x) (sym (append-nil bytes))
+  all-behind bytes (block ∷ blocks) = ap (λ y. all-fed y blocks) (cut-anywhere x bytes block) ∙ all-behind (bytes ++ block) blocks ∙ ap (fed x) (append-assoc bytes block (flatten blocks))
+
+  pub all-as-one : length (x .part) < 32 → (blocks : List (List ℕ)) → all-fed x blocks ≡ fed x (flatten blocks)
+  all-as-one h blocks = ap (λ y. all-fed y blocks) (sym nothing) ∙ all-behind [] blocks
+    where
+      nothing : fed x [] ≡ x
+      nothing = let same = append-nil (x .part) in let size = ap length same in fed-less x [] (omega arith) ∙ (λ i. record { state = x .state; numbers = x .numbers; part = same i })
+
+pub as-whole-files : AsWholeFiles
+as-whole-files blocks = rw (all-as-one begun (omega arith) blocks) (as-whole-file (flatten blocks))

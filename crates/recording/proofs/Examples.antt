@@ -3,10 +3,11 @@ use mathlib.Core.Path.{refl}
 use Rattle.model.proofs.Open.{everything}
 use Rattle.recording.specs.Recording.{recorded-values, not-run}
 use Rattle.recording.specs.Replay.{first-records, whole-records, records-of, rest-of, compared, play, how-many, first-of, differing, line, replayed}
+use Rattle.recording.specs.Blocks.{counted, all-counted, fed, all-fed}
 use Rattle.recording.specs.Examples.{Examples}
 
 pub examples : Examples
-unfolding everything recorded-values not-run first-records whole-records records-of rest-of compared play how-many first-of differing line replayed
+unfolding everything recorded-values not-run first-records whole-records records-of rest-of compared play how-many first-of differing line replayed counted all-counted fed all-fed
 examples = record {
   empty-file = refl;
   three-records = refl;
@@ -18,4 +19,5 @@ examples = record {
   attribute-256 = refl;
   wait-with-a-word = refl;
   wait-without-one = refl;
+  in-blocks = refl;
 }

@@ -1,7 +1,7 @@
 -- Document 02, item 5: a recording in blocks of any length, also of no bytes: what the replay keeps between two blocks, and what a block does to it.
 use mathlib.Core.Path.{_≡_}
 use mathlib.Core.Bool.{Bool, cond, _&&_}
-use mathlib.Core.List.{List, [], _∷_, _++_}
+use mathlib.Core.List.{List, [], _∷_, _++_, flatten}
 use Prim.Native.Nat.{ℕ, suc, _≤_}
 use lib.Dec.{eqb}
 use lib.ListN.{length}
@@ -60,6 +60,11 @@ fed x block = record {
 abbrev pub line-of : Replaying → Line
 line-of x = record { records = x .numbers .records; differ = x .numbers .differ; first = x .numbers .first; tail = length (x .part) }
 
+-- One block after the other.
+unfoldable pub all-fed : Replaying → List (List ℕ) → Replaying
+all-fed x [] = x
+all-fed x (block ∷ blocks) = all-fed (fed x block) blocks
+
 -- ── What is claimed of this ──
 
 -- "wherever it was cut": two blocks are one.
@@ -67,9 +72,10 @@ abbrev pub CutAnywhere : Type 0
 CutAnywhere = (x : Replaying) (earlier later : List ℕ) → fed (fed x earlier) later ≡ fed x (earlier ++ later)
 
 -- "the same four numbers and the same kernel state as the whole file".
-pub record AsWholeFile (bytes : List ℕ) : Type 0 where
-  pub line-is : line-of (fed begun bytes) ≡ line bytes
-  pub state-is : fed begun bytes .state ≡ replayed bytes
+pub record AsWholeFile (x : Replaying) (bytes : List ℕ) : Type 0 where
+  pub line-is : line-of x ≡ line bytes
+  pub state-is : x .state ≡ replayed bytes
 
+-- Every list of blocks: one, many, none; of many bytes, of one, of none.
 abbrev pub AsWholeFiles : Type 0
-AsWholeFiles = (bytes : List ℕ) → AsWholeFile bytes
+AsWholeFiles = (blocks : List (List ℕ)) → AsWholeFile (all-fed begun blocks) (flatten blocks)

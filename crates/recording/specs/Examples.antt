@@ -1,8 +1,10 @@
--- Document 02, item 3: its own examples, and a short file for each of its sentences. A record is written by its fields.
+-- Document 02, item 3: its own examples, and a short file for each of its sentences; item 5: a file in blocks. A record is written by its fields.
 use mathlib.Core.Path.{_≡_}
 use mathlib.Core.List.{List, [], _∷_, _++_}
 use Prim.Native.Nat.{ℕ}
+use lib.ListN.{take, drop}
 use Rattle.recording.specs.Replay.{start, Line, line, replayed}
+use Rattle.recording.specs.Blocks.{begun, all-fed, line-of}
 
 -- Bytes 0 to 3: call number, caller, flags, task or object. Then fields of four bytes: value, tmout, attribute.
 abbrev pub call-bytes : ℕ → ℕ → ℕ → ℕ → List ℕ → List ℕ → List ℕ → List ℕ
@@ -67,3 +69,5 @@ pub record Examples : Type 0 where
   -- "For waits, a, b and c are 0, and anything else there differs": the task waits all the same, so rel_wai ends its wait.
   pub wait-with-a-word : line (defines ok ++ creates (small 0) ok ++ waits-with 7 ++ releases) ≡ prints 4 1 3 0
   pub wait-without-one : line (defines ok ++ creates (small 0) ok ++ waits-with 0 ++ releases) ≡ prints 4 0 0 0
+  -- Item 5: a record in blocks of 5, of no and of 27 bytes, and a byte behind it.
+  pub in-blocks : line-of (all-fed begun (take 5 (a-tick 0) ∷ [] ∷ drop 5 (a-tick 0) ∷ (7 ∷ []) ∷ [])) ≡ prints 1 0 0 1

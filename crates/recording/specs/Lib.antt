@@ -1,5 +1,5 @@
 pub mod Recording
 pub mod Replay
-pub mod Examples
 pub mod Blocks
+pub mod Examples
 pub mod Decoded

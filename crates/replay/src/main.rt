@@ -1,11 +1,11 @@
-// Replays a recording (document 02, item 3): reads it from standard input to its end, in blocks, and prints the line. Where a read fails it says so on standard
-// error and prints no line.
-ghost use Rattle.replays.specs.Replays.{SoundReplay};
+// Replays a recording (document 02, item 3): reads it from standard input to its end, in blocks (item 5), and prints the line. Where a read fails, or a block or
+// the end is refused, it says so on standard error and prints no line.
 use libc::EINTR;
 use libc::STDERR_FILENO;
 use libc::STDIN_FILENO;
 use libc::STDOUT_FILENO;
 use model::Code;
+use replays::Ended;
 use replays::Replay;
 
 // After so many reads a terminal is shown how far the replay is.
@@ -20,13 +20,13 @@ fn print_named(file: i32, name: &[u8], number: u64) -> bool {
 }
 
 // The line, and whether it could be written.
-fn print_line(replay: Replay) -> bool {
-    let tally = replay.tally;
+fn print_line(line: Ended) -> bool {
+    let tally = line.tally;
     let counts = print_named(STDOUT_FILENO, b"records ", tally.records)
         && print_named(STDOUT_FILENO, b" differ ", tally.differ);
     counts
         && print_named(STDOUT_FILENO, b" first ", tally.first)
-        && print_named(STDOUT_FILENO, b" tail ", replay.length as u64)
+        && print_named(STDOUT_FILENO, b" tail ", line.tail)
         && io::write_all(STDOUT_FILENO, b"\n")
 }
 
@@ -58,42 +58,47 @@ fn after_failure() -> bool {
     false
 }
 
-fn after_end(replay: Replay) {
-    if !print_line(replay) {
-        os::fail(b"standard output");
-    }
-}
-
-fn after_bytes(replay: Replay, bytes: &[u8]) -> After
-    requires { ⌜ SoundReplay replay ⌝ }
-    ensures { λ r. ⌜ SoundReplay (r .replay) ⌝ }
-{
-    let fed = replay.feed(bytes);
-    let replay = fed.replay;
-    let code = fed.code;
+// Whether the code is E_OK. Of any other a line tells why; a replay that began with `new` is never refused with E_SYS.
+fn accepted(code: Code) -> bool {
     match code {
-        Code::Ok => After {
-            replay,
-            goes_on: true,
-        },
-        _ => {
+        Code::Ok => true,
+        Code::Par => {
             io::write_all(
                 STDERR_FILENO,
                 b"standard input: more records than 64 bits count\n",
             );
-            After {
-                replay,
-                goes_on: false,
-            }
+            false
+        }
+        _ => {
+            io::write_all(STDERR_FILENO, b"the replay's state is not sound\n");
+            false
         }
     }
 }
 
+fn after_end(replay: Replay) {
+    let line = replay.end();
+    let code = line.code;
+    if !accepted(code) {
+        return;
+    }
+    if !print_line(line) {
+        os::fail(b"standard output");
+    }
+}
+
+fn after_bytes(replay: Replay, bytes: &[u8]) -> After {
+    let fed = replay.feed(bytes);
+    let replay = fed.replay;
+    let code = fed.code;
+    After {
+        replay,
+        goes_on: accepted(code),
+    }
+}
+
 // One read: as many bytes as there are, up to the buffer's.
-fn turn(replay: Replay) -> After
-    requires { ⌜ SoundReplay replay ⌝ }
-    ensures { λ r. ⌜ SoundReplay (r .replay) ⌝ }
-{
+fn turn(replay: Replay) -> After {
     let mut buffer = io::large_buffer();
     let got = libc::read(STDIN_FILENO, &mut buffer);
     if got < 0 {

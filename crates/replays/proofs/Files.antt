@@ -1,26 +1,29 @@
 -- Blocks in a row are one file: by induction on the blocks.
-use mathlib.Core.Path.{_≡_, sym, _∙_, ap, subst}
-use mathlib.Core.List.{List, [], _∷_, _++_, flatten, append-nil}
-use Prim.Native.Nat.{ℕ, _+_, _/_, _≤_}
+use mathlib.Core.Path.{_≡_, refl, sym, _∙_, ap, subst}
+use mathlib.Core.List.{List, [], _∷_, _++_, flatten}
+use Prim.Native.Nat.{ℕ, _/_, _≤_}
 use native.Mathlib.Omega.{arith}
-use native.Mathlib.Decide.{decLe}
-use lib.ListN.{length, length-append, length-take}
-use lib.Seq.{length-take-le}
+use lib.ListN.{length, length-append, replicate}
 use Rattle.lists.specs.Lists.{Each, none, both}
 use Rattle.rows.specs.Runs.{Run, no-call, one-call}
 use Rattle.model.specs.declared.Code.{Code}
 use Rattle.model.specs.declared.Code.the-variants.{Ok as E-OK}
-use Rattle.recording.specs.Replay.{records-of, Line, line}
-use Rattle.recording.specs.Blocks.{Replaying, fed, line-of}
-use Rattle.recording.proofs.Blocks.{cut-anywhere, as-whole-files, fed-less, records-fed}
-use Rattle.replays.specs.declared.Fed.{Fed}
+use Rattle.record.specs.declared.State.{State}
+use Rattle.record.specs.Meaning.{abs}
+use Rattle.record.specs.Sound.{Sound}
+use Rattle.recording.specs.Replay.{records-of, start, Line, line}
+use Rattle.recording.specs.Blocks.{Replaying, begun, fed, all-fed, line-of}
+use Rattle.recording.proofs.Blocks.{cut-anywhere, as-whole-file, as-whole-files, records-fed}
 use Rattle.replays.specs.declared.Replay.{Replay}
-use Rattle.replays.specs.Replays.{part-of, meaning, SoundReplay, AfterBytes, count-limit, TakesBlock}
-use Rattle.replays.specs.Files.{FilesRun, Feeds, EveryFile}
+use Rattle.replays.specs.Replays.{no-records, meaning, SoundReplay, count-limit, TakesBlockAs}
+use Rattle.replays.specs.Files.{New, EveryFile}
 
--- A block leaves a sound replay sound, taken or not.
-pub stays-sound : {s : Replay} {block : List ℕ} {r : Fed} → SoundReplay s → TakesBlock s block r → SoundReplay (r .replay)
-stays-sound {s} {block} S t = elim (decLe (fed (meaning s) block .numbers .records) count-limit) [ yes few ↦ t .otherwise few .1 .sound | no many ↦ subst SoundReplay (sym (t .too-many (omega arith) .1)) S ]
+-- The empty state with nothing counted.
+pub new-replay : {s : State} → Sound s → abs s ≡ start → New (record { state = s; tally = no-records; part = replicate 32 0; length = 0 })
+new-replay S e = record {
+  sound = record { sound = S; part-within = omega arith; part-size = refl; possible = record { differ-within = omega arith; first-within = omega arith; none-differs = λ z. refl; some-differs = λ z. refl } };
+  meaning-is = ap (λ m. record { state = m; numbers = begun .numbers; part = [] }) e;
+}
 
 -- More bytes make no fewer records.
 more-bytes : (x : Replaying) (earlier later : List ℕ) → fed x (earlier ++ later) .numbers .records ≤ count-limit → fed x earlier .numbers .records ≤ count-limit
@@ -33,48 +36,39 @@ more-bytes x earlier later h =
     let fewer : length (x .part ++ earlier) / 32 ≤ length (x .part ++ (earlier ++ later)) / 32 = omega arith in
     omega arith
 
-all-fed : {s last : Replay} {blocks : List (List ℕ)} {codes : List Code} → SoundReplay s → Run Feeds s blocks last codes
-    → fed (meaning s) (flatten blocks) .numbers .records ≤ count-limit → Each (λ code. code ≡ E-OK) codes × AfterBytes (meaning s) (flatten blocks) last
-unfolding flatten
-all-fed {s} S no-call h =
-    let within = S .part-within in
-    let part = length-take (s .length) (s .part) in
-    let same = append-nil (part-of s) in
-    let size = ap length same in
-    let nothing = fed-less (meaning s) [] (omega arith) ∙ (λ i. record { state = meaning s .state; numbers = meaning s .numbers; part = same i }) in
-    (none, record { meaning-is = sym nothing; sound = S })
-all-fed {s} S (one-call {after = after} {c = block} {calls = blocks} t more) h =
-    let (ok, f) = t .otherwise (more-bytes (meaning s) block (flatten blocks) h) in
-    let cut = ap (λ x. fed x (flatten blocks)) (f .meaning-is) ∙ cut-anywhere (meaning s) block (flatten blocks) in
-    let (oks, follows) = all-fed (f .sound) more (subst (λ (x : Replaying). x .numbers .records ≤ count-limit) (sym cut) h) in
-    (both ok oks, record { meaning-is = follows .meaning-is ∙ cut; sound = follows .sound })
+module _ {X K : Type 0} (held : X → Replay) (told : Code → K) where
+  -- What a list of blocks leaves of a sound replay.
+  record AllTaken (s : X) (blocks : List (List ℕ)) (last : X) (codes : List K) : Type 0 where
+    taken : Each (λ c. c ≡ told E-OK) codes
+    meaning-is : meaning (held last) ≡ all-fed (meaning (held s)) blocks
+    sound : SoundReplay (held last)
 
-pub every-file : EveryFile
-unfolding line
-every-file first last blocks codes S new run h =
-    let whole = as-whole-files (flatten blocks) in
-    let from-begun = ap (λ x. fed x (flatten blocks)) new in
-    let records-are = ap (λ (x : Replaying). x .numbers .records) from-begun ∙ ap (λ (l : Line). l .records) (whole .line-is) in
-    let (oks, follows) = all-fed S run (few blocks records-are h) in
-    let end = follows .meaning-is ∙ from-begun in
-    let tail = sym (length-take-le (last .length) (last .part) (short (follows .sound))) in (
-      oks,
-      record {
-        line-is = (λ i. record { records = last .tally .records; differ = last .tally .differ; first = last .tally .first; tail = tail i }) ∙ ap line-of end ∙ whole .line-is;
-        state-is = ap (λ (x : Replaying). x .state) end ∙ whole .state-is;
-        sound = follows .sound;
-      },
-    )
-  where
-    short : {r : Replay} → SoundReplay r → r .length ≤ length (r .part)
-    short S = let a = S .part-within in let b = S .part-size in omega arith
+  all-taken : {s last : X} {blocks : List (List ℕ)} {codes : List K} → SoundReplay (held s) → Run (TakesBlockAs held told) s blocks last codes
+      → fed (meaning (held s)) (flatten blocks) .numbers .records ≤ count-limit → AllTaken s blocks last codes
+  unfolding flatten all-fed
+  all-taken S no-call h = record { taken = none; meaning-is = refl; sound = S }
+  all-taken {s} S (one-call {c = block} {calls = blocks} t more) h =
+      let (ok, f) = t .otherwise S (more-bytes (meaning (held s)) block (flatten blocks) h) in
+      let cut = ap (λ x. fed x (flatten blocks)) (f .meaning-is) ∙ cut-anywhere (meaning (held s)) block (flatten blocks) in
+      let follows = all-taken (f .sound) more (subst (λ (x : Replaying). x .numbers .records ≤ count-limit) (sym cut) h) in
+      record { taken = both ok (follows .taken); meaning-is = follows .meaning-is ∙ ap (λ x. all-fed x blocks) (f .meaning-is); sound = follows .sound }
 
-    few : (blocks : List (List ℕ)) {n : ℕ} → n ≡ line (flatten blocks) .records → length (records-of (flatten blocks)) ≤ count-limit → n ≤ count-limit
-    few blocks e h = omega arith
+  -- A new replay after all bytes has as many records as the file.
+  few : (blocks : List (List ℕ)) {x : Replaying} → x ≡ begun → length (records-of (flatten blocks)) ≤ count-limit → fed x (flatten blocks) .numbers .records ≤ count-limit
+  unfolding line
+  few blocks new h = let counts = ap (λ x. fed x (flatten blocks) .numbers .records) new ∙ ap (λ (l : Line). l .records) (as-whole-file (flatten blocks) .line-is) in omega arith
 
-pub files-run : FilesRun
-files-run feed feeds first S [] = record { last = first; codes = []; run = no-call }
-files-run feed feeds first S (block ∷ blocks) =
-    let t = feeds first block S in
-    let more = files-run feed feeds (feed first block .replay) (stays-sound S t) blocks in
-    record { last = more .last; codes = feed first block .code ∷ more .codes; run = one-call t (more .run) }
+  pub every-file : EveryFile held told
+  every-file first last blocks codes code l new run ends h =
+      let follows = all-taken (new .sound) run (few blocks (new .meaning-is) h) in
+      let end = follows .meaning-is ∙ ap (λ x. all-fed x blocks) (new .meaning-is) in
+      let whole = as-whole-files blocks in
+      let (code-is, line-is) = ends .otherwise (follows .sound) in (
+        follows .taken,
+        record {
+          code-is = code-is;
+          line-is = line-is ∙ ap line-of end ∙ whole .line-is;
+          state-is = ap (λ (x : Replaying). x .state) end ∙ whole .state-is;
+          sound = follows .sound;
+        },
+      )

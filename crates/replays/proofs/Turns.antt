@@ -201,13 +201,12 @@ joined-block s {r} {last} {block} {whole} n e p f = record {
   sound = f .sound;
 }
 
--- How many records a block makes whole, as the code counts them: no sum of two lengths, which might not fit.
-pub records-with-block : (s : Replay) (block : List ℕ) → SoundReplay s
-    → records-with s block ≡ s .tally .records + (length block / 32 + (s .length + length block % 32) / 32)
+-- How many records there are with a block.
+pub records-with-block : (s : Replay) (block : List ℕ) → SoundReplay s → records-with s block ≡ s .tally .records + (s .length + length block) / 32
 records-with-block s block S =
     let within = S .part-within in
     let size = S .part-size in
     let part = length-take (s .length) (s .part) in
     let all = length-append (part-of s) block in
-    let whole : length (part-of s ++ block) / 32 ≡ length block / 32 + (s .length + length block % 32) / 32 = omega arith in
+    let whole : length (part-of s ++ block) / 32 ≡ (s .length + length block) / 32 = omega arith in
     records-fed (meaning s) block ∙ ap (λ n. s .tally .records + n) whole

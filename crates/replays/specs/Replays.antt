@@ -5,15 +5,18 @@ use mathlib.Core.List.{List}
 use Prim.Native.Nat.{ℕ, _<_, _≤_}
 use lib.Dec.{T}
 use lib.ListN.{length, take}
-use Rattle.model.specs.declared.Code.the-variants.{Ok as E-OK, Par as E-PAR}
+use Rattle.model.specs.declared.Code.{Code}
+use Rattle.model.specs.declared.Code.the-variants.{Ok as E-OK, Par as E-PAR, Sys as E-SYS}
 use Rattle.decide.specs.Touches.{changed-by}
 use Rattle.record.specs.declared.State.{State}
 use Rattle.record.specs.Meaning.{abs}
 use Rattle.record.specs.Sound.{Sound}
 use Rattle.kernel.specs.Steps.{Judged, Appliable}
 use Rattle.recording.specs.Recording.{recorded-call, recorded-values, not-run}
-use Rattle.recording.specs.Blocks.{Numbers, Possible, Replaying, fed}
+use Rattle.recording.specs.Replay.{Line}
+use Rattle.recording.specs.Blocks.{Numbers, Possible, Replaying, fed, line-of}
 use Rattle.recording.specs.Decoded.{values-of}
+use Rattle.replays.specs.declared.Ended.{Ended}
 use Rattle.replays.specs.declared.Fed.{Fed}
 use Rattle.replays.specs.declared.Reading.{Reading}
 use Rattle.replays.specs.declared.Replay.{Replay}
@@ -24,14 +27,18 @@ use Rattle.replays.specs.declared.Tally.{Tally}
 abbrev pub numbers-of : Tally → Numbers
 numbers-of t = record { records = t .records; differ = t .differ; first = t .first }
 
+abbrev pub no-records : Tally
+no-records = record { records = 0; differ = 0; first = 0 }
+
 abbrev pub part-of : Replay → List ℕ
 part-of r = take (r .length) (r .part)
 
 abbrev pub meaning : Replay → Replaying
 meaning r = record { state = abs (r .state); numbers = numbers-of (r .tally); part = part-of r }
 
--- Item 5 says which replay states are refused: all others are sound. (The size of the array is its type's, and stands here so that whoever has a sound
--- replay has it.)
+-- "A replay state with an unsound kernel state, a part above 31 bytes, differ or first above records, or only one of these two 0" is refused; every other is
+-- sound (our own term, for a replay state), and nothing more is asked of one. The size of the array is its type's, holds of every replay state, and stands here
+-- so that whoever has a sound one has it.
 pub record SoundReplay (r : Replay) : Type 0 where
   pub sound : Sound (r .state)
   pub part-within : r .length ≤ 31
@@ -62,7 +69,30 @@ count-limit = 18446744073709551615
 abbrev pub records-with : Replay → List ℕ → ℕ
 records-with s block = fed (meaning s) block .numbers .records
 
--- "a block that would take records past 64 bits gets E_PAR", and changes nothing.
-pub record TakesBlock (s : Replay) (block : List ℕ) (r : Fed) : Type 0 where
-  pub too-many : count-limit < records-with s block → (r .code ≡ E-PAR) × (r .replay ≡ s)
-  pub otherwise : records-with s block ≤ count-limit → (r .code ≡ E-OK) × AfterBytes (meaning s) block (r .replay)
+-- What a block does to whatever replay state, by the first of three cases. X holds a replay, and a code is told as a K: here they are `Replay` and `Code`, for
+-- hosts their record and document 01's numbers.
+pub record TakesBlockAs {X K : Type 0} (held : X → Replay) (told : Code → K) (s : X) (block : List ℕ) (after : X) (code : K) : Type 0 where
+  -- "gets E_SYS", and changes nothing.
+  pub unsound : (SoundReplay (held s) → ⊥) → (code ≡ told E-SYS) × (after ≡ s)
+  -- "then a block that would take records past 64 bits gets E_PAR", and changes nothing.
+  pub too-many : SoundReplay (held s) → count-limit < records-with (held s) block → (code ≡ told E-PAR) × (after ≡ s)
+  pub otherwise : SoundReplay (held s) → records-with (held s) block ≤ count-limit → (code ≡ told E-OK) × AfterBytes (meaning (held s)) block (held after)
+
+abbrev pub TakesBlock : Replay → List ℕ → Fed → Type 0
+TakesBlock s block r = TakesBlockAs (λ x. x) (λ code. code) s block (r .replay) (r .code)
+
+-- ── The end ──
+
+abbrev pub four-zeros : Line
+four-zeros = record { records = 0; differ = 0; first = 0; tail = 0 }
+
+-- "at the end with four zeros".
+pub record EndsAs {X K : Type 0} (held : X → Replay) (told : Code → K) (s : X) (code : K) (l : Line) : Type 0 where
+  pub unsound : (SoundReplay (held s) → ⊥) → (code ≡ told E-SYS) × (l ≡ four-zeros)
+  pub otherwise : SoundReplay (held s) → (code ≡ told E-OK) × (l ≡ line-of (meaning (held s)))
+
+abbrev pub line-in : Ended → Line
+line-in r = record { records = r .tally .records; differ = r .tally .differ; first = r .tally .first; tail = r .tail }
+
+abbrev pub Ends : Replay → Ended → Type 0
+Ends s r = EndsAs (λ x. x) (λ code. code) s (r .code) (line-in r)

@@ -1,18 +1,19 @@
-// The replay of a recording (document 02, item 3), fed blocks of any length, so that no file is too long (item 5). The kernel's state is known to be sound, so
-// no record pays for the test.
+// The replay of a recording (document 02, item 3), fed blocks of any length (item 5). A replay state is tested once a block, so no record pays for the test.
 ghost use mathlib.Core.Path.{_≡_};
 ghost use mathlib.Core.Bool.{not, cond, _&&_};
 ghost use mathlib.Core.List.{[], _++_};
 ghost use Prim.Native.Nat.{_+_, _<_, _≤_, _/_};
-ghost use lib.Dec.{eqb};
+ghost use lib.Dec.{eqb, ltb};
 ghost use lib.ListN.{length, take};
+ghost use Rattle.lists.specs.Tests.{Whether};
 ghost use Rattle.model.specs.Codes.{values};
 ghost use Rattle.record.specs.Meaning.{abs};
 ghost use Rattle.record.specs.Sound.{Sound};
 ghost use Rattle.recording.specs.Replay.{same-values};
-ghost use Rattle.recording.specs.Blocks.{counted, begun};
+ghost use Rattle.recording.specs.Blocks.{counted, Possible};
 ghost use Rattle.recording.specs.Decoded.{values-of};
-ghost use Rattle.replays.specs.Replays.{numbers-of, meaning, SoundReplay, ReadFrom, AfterBytes, count-limit, TakesBlock};
+ghost use Rattle.replays.specs.Replays.{no-records, numbers-of, meaning, SoundReplay, ReadFrom, AfterBytes, count-limit, TakesBlock, Ends};
+ghost use Rattle.replays.specs.Files.{New};
 use decide::Decision;
 use model::Answer;
 use model::Code;
@@ -39,10 +40,18 @@ pub struct Replay {
     pub length: usize,
 }
 
-// What a block gave: E_OK, or E_PAR with the replay as it was.
+// What a block gave: E_OK, or E_SYS or E_PAR with the replay as it was.
 pub struct Fed {
     pub replay: Replay,
     pub code: Code,
+}
+
+// The line at the end of the recording with E_OK, or E_SYS with four zeros.
+pub struct Ended {
+    pub code: Code,
+    pub tally: Tally,
+    // The bytes after the last whole record.
+    pub tail: u64,
 }
 
 // What a record comes to on a state: the call's decision, whether that changes anything, and the answer to compare with.
@@ -109,6 +118,17 @@ fn first_of(earlier: u64, this: u64) -> u64
 }
 
 impl Tally {
+    // Of no record.
+    fn none() -> Tally
+        ensures { λ r. ⌜ r ≡ no-records ⌝ }
+    {
+        Tally {
+            records: 0,
+            differ: 0,
+            first: 0,
+        }
+    }
+
     // One record more.
     fn counted(self, differs: bool) -> Tally
         requires { ⌜ self .records < count-limit ⌝ }
@@ -129,9 +149,27 @@ impl Tally {
             first: first_of(self.first, records),
         }
     }
+
+    // Neither differ nor first is above records, and both are 0 or none is. Nothing more is asked of them.
+    fn is_possible(self) -> bool
+        ensures { λ r. ⌜ Whether (Possible (numbers-of self)) r ⌝ }
+    {
+        let none_differs = self.differ == 0;
+        let no_first = self.first == 0;
+        (self.differ <= self.records) & (self.first <= self.records) & (none_differs == no_first)
+    }
 }
 
 // ── Blocks ──
+
+// Whether so many records would pass 64 bits with those that a part and so many bytes make whole. The two lengths are never added: the sum might not fit. Of a
+// part above 31 bytes nothing is said.
+fn would_pass(records: u64, part: usize, bytes: usize) -> bool
+    ensures { λ r. ⌜ (part ≤ 31 → r ≡ ltb count-limit (records + (part + bytes) / 32)) ⌝ }
+{
+    let more = bytes / RECORD_BYTES + (part % RECORD_BYTES + bytes % RECORD_BYTES) / RECORD_BYTES;
+    u64::MAX - records < more as u64
+}
 
 // The part with these bytes behind those that it has.
 fn appended(part: [u8; RECORD_BYTES], has: usize, bytes: &[u8]) -> [u8; RECORD_BYTES]
@@ -151,16 +189,12 @@ fn appended(part: [u8; RECORD_BYTES], has: usize, bytes: &[u8]) -> [u8; RECORD_B
 impl Replay {
     // Before the first block.
     pub fn new() -> Replay
-        ensures { λ r. ⌜ SoundReplay r × (meaning r ≡ begun) ⌝ }
+        ensures { λ r. ⌜ New r ⌝ }
     {
         let state = State::empty();
         Replay {
             state,
-            tally: Tally {
-                records: 0,
-                differ: 0,
-                first: 0,
-            },
+            tally: Tally::none(),
             part: [0; RECORD_BYTES],
             length: 0,
         }
@@ -232,15 +266,29 @@ impl Replay {
         self.play(&part).play(&block[missing..])
     }
 
-    // A block of any length, also of no bytes.
+    // Whether the replay state is one that item 5 lets through: the part and the numbers, and the kernel's state.
+    fn is_sound(self) -> bool
+        ensures { λ r. ⌜ Whether (SoundReplay self) r ⌝ }
+    {
+        let state = self.state;
+        let tally = self.tally;
+        (self.length < RECORD_BYTES) & tally.is_possible() & see::sound(state)
+    }
+
+    // A block of any length, also of no bytes, on whatever replay state.
     pub fn feed(self, block: &[u8]) -> Fed
-        requires { ⌜ SoundReplay self ⌝ }
         ensures { λ r. ⌜ TakesBlock self (now (block .entry)) r ⌝ }
     {
+        let unsound = !self.is_sound();
         let tally = self.tally;
-        let records = block.len() / RECORD_BYTES
-            + (self.length + block.len() % RECORD_BYTES) / RECORD_BYTES;
-        if u64::MAX - tally.records < records as u64 {
+        let too_many = would_pass(tally.records, self.length, block.len());
+        if unsound {
+            return Fed {
+                replay: self,
+                code: Code::Sys,
+            };
+        }
+        if too_many {
             return Fed {
                 replay: self,
                 code: Code::Par,
@@ -250,6 +298,26 @@ impl Replay {
         Fed {
             replay,
             code: Code::Ok,
+        }
+    }
+
+    // The end of the recording, on whatever replay state.
+    pub fn end(self) -> Ended
+        ensures { λ r. ⌜ Ends self r ⌝ }
+    {
+        if !self.is_sound() {
+            let code = Code::Sys;
+            return Ended {
+                code,
+                tally: Tally::none(),
+                tail: 0,
+            };
+        }
+        let tally = self.tally;
+        Ended {
+            code: Code::Ok,
+            tally,
+            tail: self.length as u64,
         }
     }
 }

@@ -4,3 +4,6 @@ pub mod Entry
 pub mod Walk
 pub mod Staged
 pub mod Table
+pub mod Filled
+pub mod Read
+pub mod Block

@@ -1,17 +1,20 @@
-//! Linguastel for hosts in Rust: the state record, the 23 calls, the tick, tables of calls, and the recording of calls. Documents 01 and 02 say what
-//! each of them does; their words are used here.
+//! Linguastel for hosts in Rust: the state record, the 23 calls, the tick, tables of calls, the recording of calls, and the replay of a recording in
+//! blocks. Documents 01 and 02 say what each of them does; their words are used here.
 //!
-//! The library is two archives: `rt staticlib linguastel` proves and writes target/staticlib/liblinguastel.a, `rt staticlib linguastel_table`
-//! target/staticlib/liblinguastel_table.a, which has the function behind [`Record::table`] alone. This crate links both. With cargo, build.rs finds
-//! them there or in the folder that LINGUASTEL_LIB names. Without cargo:
+//! The library is three archives: `rt staticlib linguastel` proves and writes target/staticlib/liblinguastel.a, `rt staticlib linguastel_table`
+//! target/staticlib/liblinguastel_table.a, which has the function behind [`Record::table`] alone, and `rt staticlib linguastel_replay`
+//! target/staticlib/liblinguastel_replay.a, which has those behind [`Replay`] alone. This crate links all three. With cargo, build.rs finds them there
+//! or in the folder that LINGUASTEL_LIB names. Without cargo:
 //! `rustc --edition 2021 --crate-type rlib -L native=target/staticlib hosts/rust/src/lib.rs`.
 //!
-//! The kernel's promise covers a record of any bytes, a call with any numbers and tables of any length, so every field is public and every function
-//! is safe. A `&mut Record` is a whole record that nobody else uses during the call. What stays the host's part: each call gets the record as the call
-//! before it left it, and the context is true.
+//! The kernel's promise covers a record of any bytes, a call with any numbers and tables of any length, and also a replay of any bytes and a block of
+//! any bytes and any length, so every field is public and every function is safe. A `&mut Record` is a whole record that nobody else uses during the
+//! call. What stays the host's part: each call gets the record as the call before it left it, and the context is true; the blocks of a replay are the
+//! bytes of one recording, all of them, in their order.
 #![no_std]
 
 use core::array::from_fn;
+use core::fmt;
 use core::mem::{align_of, offset_of, size_of};
 
 // ── Sizes and names ──
@@ -323,6 +326,50 @@ impl Answer {
     }
 }
 
+// ── A replay and its line ──
+
+/// What the replay of a recording keeps between two blocks. A host may read it there. What it writes is taken as it is, if the kernel's state is then
+/// sound, `length` is at most 31, `differ` and `first` are at most `records`, and both of these are 0 or none is; else feed and end answer E_SYS.
+///
+/// Every byte belongs to a field, so that replays can be copied and compared as bytes.
+#[repr(C)]
+#[derive(Clone, Copy, PartialEq, Eq, Debug)]
+pub struct Replay {
+    /// The whole records so far.
+    pub records: u64,
+    /// So many of them differ.
+    pub differ: u64,
+    /// The first of these, counted from 1; 0 where there is none.
+    pub first: u64,
+    /// So many bytes follow the last whole record: 0 to 31.
+    pub length: u64,
+    /// The kernel's state after the whole records.
+    pub kernel: Record,
+    /// Its first `length` bytes are those that follow; the others say nothing.
+    pub part: [u8; TRACE_SIZE],
+}
+
+/// The line of a recording: the numbers that the program replay prints, and the code. Displayed it is that line, without the code.
+#[repr(C)]
+#[derive(Clone, Copy, PartialEq, Eq, Debug)]
+pub struct Line {
+    pub records: u64,
+    pub differ: u64,
+    pub first: u64,
+    /// The bytes after the last whole record.
+    pub tail: u64,
+    pub code: i32,
+    /// Always 0.
+    pub spare: u32,
+}
+
+impl fmt::Display for Line {
+    fn fmt(&self, f: &mut fmt::Formatter) -> fmt::Result {
+        let Line { records, differ, first, tail, .. } = self;
+        write!(f, "records {records} differ {differ} first {first} tail {tail}")
+    }
+}
+
 // ── The layout: the library was compiled for these places ──
 
 const fn size_of_field<T, F>(_: fn(&T) -> &F) -> usize {
@@ -346,6 +393,8 @@ layout!(Chains, 146, 1, link 0, key 81);
 layout!(Record, 2232, 4, counter 0, tasks 4, queues 664, waiting 1888, messages 2034, mailboxes 2180, spare 2231);
 layout!(Call, 32, 4, number 0, caller 4, locked 8, disabled 12, object 16, value 20, tmout 24, attribute 28);
 layout!(Answer, 24, 4, kind 0, code 4, place 8, a 12, b 16, c 20);
+layout!(Replay, 2296, 8, records 0, differ 8, first 16, length 24, kernel 32, part 2264);
+layout!(Line, 40, 8, records 0, differ 8, first 16, tail 24, code 32, spare 36);
 
 // ── The library's functions ──
 
@@ -363,10 +412,26 @@ extern "C" {
     fn linguastel_table(record: &mut Record, calls: *const Call, call_count: usize, answers: *mut Answer, answer_count: usize) -> i32;
 }
 
+// An archive of its own, for the same reason.
+#[link(name = "linguastel_replay", kind = "static")]
+extern "C" {
+    fn linguastel_replay_size() -> usize;
+    fn linguastel_replay_align() -> usize;
+    fn linguastel_replay_empty(replay: &mut Replay);
+    fn linguastel_replay_feed(replay: &mut Replay, block: *const u8, size: usize) -> i32;
+    fn linguastel_replay_end(replay: &Replay) -> Line;
+}
+
 /// The record's size and alignment as the library has them, so that a host can see that it linked the library that this layout is for.
 pub fn library_layout() -> (usize, usize) {
     // SAFETY: both take nothing and return a constant.
     unsafe { (linguastel_record_size(), linguastel_record_align()) }
+}
+
+/// The same for a replay.
+pub fn replay_layout() -> (usize, usize) {
+    // SAFETY: both take nothing and return a constant.
+    unsafe { (linguastel_replay_size(), linguastel_replay_align()) }
 }
 
 impl Record {
@@ -428,7 +493,37 @@ impl Record {
     }
 }
 
-// ── Recording calls: traces, which the replay program reads (document 02, item 3) ──
+/// The replay of a recording in blocks (document 02, item 5).
+impl Replay {
+    /// A new replay: the kernel's state is the empty one, at counter 0, and nothing is counted.
+    pub fn empty() -> Replay {
+        let mut replay = Replay { records: 0, differ: 0, first: 0, length: 0, kernel: Record::ZEROS, part: [0; TRACE_SIZE] };
+        // SAFETY: the reference is to a whole replay of the layout above, and to nothing else; the function writes that replay alone.
+        unsafe { linguastel_replay_empty(&mut replay) };
+        replay
+    }
+
+    /// The next block of the recording, of any length, also of no bytes. E_OK: its bytes follow those before them, and the whole records are replayed.
+    /// However the recording is cut into blocks, numbers and kernel state come to those of the whole recording.
+    ///
+    /// E_SYS: the kernel's state isn't sound, `length` is above 31, `differ` or `first` is above `records`, or only one of these two is 0. Then E_PAR:
+    /// the block would take `records` past 64 bits. Either way nothing is done, and nothing is written into the replay.
+    pub fn feed(&mut self, block: &[u8]) -> i32 {
+        // SAFETY: the reference is to a whole replay of the layout above. The pointer is that of a whole block, handed over with its length; it isn't
+        // null even where the slice holds nothing. The replay is borrowed mutably, so nothing overlaps. The function writes the replay alone. Any
+        // bytes and any length will do.
+        unsafe { linguastel_replay_feed(self, block.as_ptr(), block.len()) }
+    }
+
+    /// The line of the bytes so far, with E_OK; or E_SYS as for feed, with four zeros. It only reads the replay, so it may be asked between blocks, and
+    /// more blocks may follow.
+    pub fn end(&self) -> Line {
+        // SAFETY: the reference is to a whole replay of the layout above, which the function only reads. Any bytes will do.
+        unsafe { linguastel_replay_end(self) }
+    }
+}
+
+// ── Recording calls: traces, which the program replay and `Replay::feed` read (document 02, item 3) ──
 
 // A trace has TRACE_SIZE bytes for each call with its answer, and nothing else. It starts at the empty record.
 

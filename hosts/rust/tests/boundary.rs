@@ -1,7 +1,7 @@
 //! Tests the boundary between a host in Rust and the library: the layout, bad numbers, records that aren't sound, what calls write, tables of calls,
-//! hosts/runs through the wrapper, and the recording of calls. hosts/c/boundary.c is the same for C. A null or misaligned pointer is no `&mut Record`
-//! and no slice; noise in all unused fields, and tables at the edge of a page, are left to the test in C. Every byte of a record or an answer belongs
-//! to a field, so `==` compares all of them.
+//! hosts/runs through the wrapper, the recording of calls, and the replay of a recording in blocks. hosts/c/boundary.c is the same for C. A null or
+//! misaligned pointer is no `&mut Record` and no slice; noise in all unused fields, and tables and blocks at the edge of a page, are left to the test
+//! in C. Every byte of a record, an answer, a replay or a line belongs to a field, so `==` compares all of them.
 use linguastel::*;
 use std::array::from_fn;
 use std::collections::BTreeSet;
@@ -152,7 +152,7 @@ fn refusal(code: i32) -> Answer {
     Answer { code, ..Answer::default() }
 }
 
-// ── A record that may only be read ──
+// ── A record or a replay that may only be read ──
 
 extern "C" {
     fn mmap(at: *mut c_void, size: usize, access: i32, kind: i32, file: i32, offset: i64) -> *mut c_void;
@@ -184,15 +184,27 @@ impl Page {
         assert_eq!(unsafe { mprotect(self.0, PAGE, access) }, 0);
     }
 
-    /// The call on a copy of the record that may only be read, at the page's start or at its end. The kernel's promise is that it reads alone.
-    fn call(&self, record: &Record, at_end: bool, call: Call) -> Answer {
-        let lent: *mut Record = self.0.wrapping_byte_add(if at_end { PAGE - size_of::<Record>() } else { 0 }).cast();
+    /// A copy that may only be read, at the page's start or at its end; it is aligned there, since a type's size is a multiple of its alignment.
+    fn lend<T: Copy>(&self, content: &T, at_end: bool) -> *mut T {
+        let lent: *mut T = self.0.wrapping_byte_add(if at_end { PAGE - size_of::<T>() } else { 0 }).cast();
         self.allow(READ_AND_WRITE);
         // SAFETY: the place is aligned, in the page, and may be written.
-        unsafe { lent.write(*record) };
+        unsafe { lent.write(*content) };
         self.allow(READ);
+        lent
+    }
+
+    /// The call on a copy of the record. The kernel's promise is that it reads alone.
+    fn call(&self, record: &Record, at_end: bool, call: Call) -> Answer {
         // SAFETY: a whole record is there, and this is the only reference to it.
-        unsafe { &mut *lent }.call(call)
+        unsafe { &mut *self.lend(record, at_end) }.call(call)
+    }
+
+    /// The block on a copy of the replay, and what is there then. The promise is the same.
+    fn feed(&self, replay: &Replay, block: &[u8]) -> (i32, Replay) {
+        // SAFETY: a whole replay is there, and this is the only reference to it.
+        let lent = unsafe { &mut *self.lend(replay, true) };
+        (lent.feed(block), *lent)
     }
 }
 
@@ -628,13 +640,19 @@ fn a_wait_in_a_table() {
     assert_eq!(answers, [Answer { kind: 1, ..Answer::default() }, refusal(E_SYS), Answer { b: 3, ..Answer::default() }]);
 }
 
-/// Marks in fields of which nothing is asked: the spare ones, those of number 0, and those of tasks and objects that nobody has.
-fn marked(mut record: Record) -> Record {
-    let mut noise = noise();
+/// Marks in fields of which nothing is asked: the spare ones, and those of number 0.
+fn marked_spares(mut record: Record, noise: &mut Noise) -> Record {
     for queue in &mut record.queues {
         (queue.spare, queue.ring.spare) = (noise.word() as u16, noise.byte());
     }
     (record.tasks[0], record.queues[0], record.mailboxes[0], record.spare) = (noise.task(), noise.queue(), noise.mailbox(), noise.byte());
+    record
+}
+
+/// The same, and also in those of tasks and objects that nobody has.
+fn marked(record: Record) -> Record {
+    let mut noise = noise();
+    let mut record = marked_spares(record, &mut noise);
     record.tasks[TASKS] = Task { wait: NO_WAIT, flags: 0, ..noise.task() };
     (record.queues[QUEUES].ring.words, record.queues[QUEUES].attribute) = (from_fn(|_| noise.word()), noise.byte());
     (record.mailboxes[MAILBOXES].attribute, record.mailboxes[MAILBOXES].highest) = (noise.byte(), noise.byte());
@@ -944,4 +962,262 @@ fn random_calls_recorded_and_replayed() {
     }
     assert_eq!(record, twin);
     assert!(accepted.into_iter().eq(number::TICK..=number::LAST) && waits > 0, "a call of each number is accepted, and calls wait");
+}
+
+// ── The replay of a recording in blocks ──
+
+#[test]
+fn layout_of_a_replay() {
+    assert_eq!(replay_layout(), (size_of::<Replay>(), align_of::<Replay>()));
+}
+
+fn zeros(code: i32) -> Line {
+    Line { records: 0, differ: 0, first: 0, tail: 0, code, spare: 0 }
+}
+
+/// The end gives the replay's own numbers.
+fn line_of(replay: &Replay) -> Line {
+    Line { records: replay.records, differ: replay.differ, first: replay.first, tail: replay.length, ..zeros(E_OK) }
+}
+
+fn assert_ends(replay: &Replay, what: &str) {
+    let lent = *replay;
+    assert_eq!((lent.end(), lent), (line_of(replay), *replay), "{what}");
+}
+
+/// The replay keeps every byte, and none is written.
+fn assert_block_refused(replay: &Replay, block: &[u8], code: i32, what: &str) {
+    assert_eq!(Page::new().feed(replay, block), (code, *replay), "{what}: {} bytes", block.len());
+}
+
+/// Nothing is said of the part's other bytes.
+fn assert_same(replay: &Replay, expected: &Replay, what: &str) {
+    let part = |replay: &Replay| replay.part[..replay.length as usize].to_vec();
+    assert_eq!((line_of(replay), part(replay)), (line_of(expected), part(expected)), "{what}");
+    assert_eq!(replay.kernel, expected.kernel, "{what}");
+}
+
+/// What the same bytes come to by single calls: item 3's rules, with the answers of `Record::call`.
+fn play_singly(replay: &mut Replay, bytes: &[u8]) {
+    let (whole, rest) = bytes.split_at(bytes.len() / TRACE_SIZE * TRACE_SIZE);
+    for one in whole.chunks(TRACE_SIZE) {
+        let one: &Bytes = one.try_into().unwrap();
+        let runs = u32::from(one[0]) <= number::LAST && one[2] <= 3 && one[16] <= 1 && [one[17], one[18], one[19], one[31]] == [0; 4];
+        let same = runs && is_answer_in(one, replay.kernel.call(call_in(one)));
+        replay.records += 1;
+        replay.differ += u64::from(!same);
+        replay.first = if !same && replay.first == 0 { replay.records } else { replay.first };
+    }
+    replay.length = rest.len() as u64;
+    replay.part[..rest.len()].copy_from_slice(rest);
+}
+
+#[test]
+fn a_new_replay() {
+    let mut replay = Replay::empty();
+    assert_eq!((replay.kernel, replay.end()), (Record::empty(), zeros(E_OK)));
+    assert_eq!((replay.feed(&[]), replay.end()), (E_OK, zeros(E_OK)));
+    assert_eq!(replay, Replay::empty());
+}
+
+#[test]
+fn the_line_as_text() {
+    let line = Line { records: 3, differ: 1, first: 2, tail: 0, ..zeros(E_OK) };
+    assert_eq!(line.to_string(), "records 3 differ 1 first 2 tail 0");
+    let largest = Line { records: u64::MAX, differ: u64::MAX, first: u64::MAX, tail: 31, ..zeros(E_OK) };
+    assert_eq!(largest.to_string(), "records 18446744073709551615 differ 18446744073709551615 first 18446744073709551615 tail 31");
+}
+
+macro_rules! stored {
+    ($($name:literal),+) => {
+        [$((
+            $name,
+            include_bytes!(concat!("../../../compare/corpus/", $name, ".bin")).as_slice(),
+            include_str!(concat!("../../../compare/corpus/", $name, ".line")),
+        )),+]
+    };
+}
+
+/// With their lines. They have records that differ or aren't run, wide and signed fields, waits, and bytes after the last whole record.
+const STORED: [(&str, &[u8], &str); 13] = stored!(
+    "empty",
+    "one-record",
+    "three-records",
+    "tail-alone",
+    "tail-1",
+    "tail-31",
+    "bad",
+    "each-byte-of-an-answer",
+    "not-run-flags-in-tick",
+    "other-kind",
+    "waits-with-words",
+    "wide-fields",
+    "calls-1"
+);
+
+type Cut = fn(&mut Noise, usize) -> usize;
+
+/// All at once, byte by byte, often less than a record and at times nothing, and more.
+const CUTS: [Cut; 4] =
+    [|_, left| left, |_, left| left.min(1), |noise, left| left.min(noise.below(71) as usize), |noise, left| left.min(noise.below(4001) as usize)];
+
+/// At times with an empty block between two others, with the end asked there, and with marks where nothing is said.
+fn feed_all(noise: &mut Noise, replay: &mut Replay, mut bytes: &[u8], cut: Cut, mark: bool) {
+    let mut fed = 0;
+    while !bytes.is_empty() {
+        let (block, rest) = bytes.split_at(cut(noise, bytes.len()));
+        if mark {
+            replay.kernel = marked_spares(replay.kernel, noise);
+            replay.part[replay.length as usize..].fill_with(|| noise.byte());
+        }
+        if noise.below(8) == 0 {
+            let before = *replay;
+            assert_eq!(replay.feed(&[]), E_OK);
+            assert_same(replay, &before, "a block of no bytes");
+        }
+        assert_eq!(replay.feed(block), E_OK, "{} bytes after {fed}", block.len());
+        (bytes, fed) = (rest, fed + block.len());
+        if noise.below(8) == 0 {
+            assert_eq!((replay.records, replay.length), ((fed / TRACE_SIZE) as u64, (fed % TRACE_SIZE) as u64));
+            assert_ends(replay, "between two blocks");
+        }
+    }
+}
+
+/// In each way, from the empty state. Without marks the record is that of single calls, byte for byte. Gives the line.
+fn assert_all_cuts(noise: &mut Noise, bytes: &[u8], what: &str) -> Line {
+    let mut twin = Replay::empty();
+    play_singly(&mut twin, bytes);
+    for (cut, mark) in CUTS.into_iter().flat_map(|cut| [(cut, false), (cut, true)]) {
+        let mut replay = Replay::empty();
+        feed_all(noise, &mut replay, bytes, cut, mark);
+        let kernel = if mark { twin.kernel } else { replay.kernel };
+        assert_same(&Replay { kernel, ..replay }, &twin, what);
+        assert_ends(&replay, what);
+    }
+    twin.end()
+}
+
+#[test]
+fn stored_traces_cut_anywhere() {
+    let mut noise = noise();
+    for (name, bytes, line) in STORED {
+        assert_eq!(format!("{}\n", assert_all_cuts(&mut noise, bytes, name)), line, "{name}");
+    }
+}
+
+/// In one record of eight a bit is another one than was recorded.
+#[test]
+fn random_recordings_cut_anywhere() {
+    let (mut noise, mut differ) = (noise(), 0);
+    for _ in 0..20 {
+        let mut trace = random_trace(&mut noise, &mut Record::empty(), 300);
+        for bytes in &mut trace {
+            if noise.below(8) == 0 {
+                bytes[noise.below(TRACE_SIZE as u32) as usize] ^= 1 << noise.below(8);
+            }
+        }
+        let (bytes, missing) = (trace.concat(), noise.below(32) as usize);
+        differ += assert_all_cuts(&mut noise, &bytes[..bytes.len() - missing], "a random recording").differ;
+    }
+    assert!(differ > 0);
+}
+
+/// More than two records.
+const MOST_BYTES: usize = 2 * TRACE_SIZE + 6;
+const SIZES: [usize; 9] = [0, 1, 31, 32, 33, 63, 64, 65, MOST_BYTES];
+/// Bytes of ticks that ended no wait, and of records that aren't run.
+const BLOCKS: [[u8; MOST_BYTES]; 2] = [[0; MOST_BYTES], [255; MOST_BYTES]];
+
+fn all_blocks() -> impl Iterator<Item = ([u8; MOST_BYTES], usize)> {
+    BLOCKS.into_iter().flat_map(|block| SIZES.map(|size| (block, size)))
+}
+
+/// Records, differ, first and length; the kernel's state is the typical one, and the part has marks.
+fn with_numbers([records, differ, first, length]: [u64; 4]) -> Replay {
+    Replay { records, differ, first, length, kernel: typical(), part: noise().bytes() }
+}
+
+/// At every block and at the end, there with four zeros.
+fn assert_replay_refused(replay: &Replay, what: &str) {
+    for (block, size) in all_blocks() {
+        assert_block_refused(replay, &block[..size], E_SYS, what);
+    }
+    let lent = *replay;
+    assert_eq!((lent.end(), lent), (zeros(E_SYS), *replay), "{what}");
+}
+
+/// Each rule by itself, with the nearest numbers that it refuses. In 32 bits, 4294967296 and 4294967297 would be 0 and 1. The last rows have the most
+/// records: E_SYS comes before E_PAR.
+#[test]
+fn replays_with_numbers_that_are_refused() {
+    let cut = 1 << 32;
+    let lengths = [32, 33, 64, 256, cut, u64::MAX].map(|length| [5, 2, 3, length]);
+    let above = [[5, 6, 3, 0], [5, cut + 1, 3, 0], [5, u64::MAX, 3, 0], [5, 2, 6, 0], [5, 2, cut + 1, 0], [5, 2, u64::MAX, 0], [0, 1, 1, 0]];
+    let one_is_0 = [[5, 1, 0, 0], [5, 5, 0, 0], [cut, cut, 0, 0], [5, 0, 1, 0], [5, 0, 5, 0], [cut, 0, cut, 0]];
+    let most = [[0, 0, 0, 32], [u64::MAX, 2, 3, 32], [u64::MAX, 1, 0, 31], [u64::MAX, 0, 1, 31]];
+    let almost_most = [[u64::MAX - 1, u64::MAX, 3, 0], [u64::MAX - 1, 3, u64::MAX, 0]];
+    for numbers in lengths.into_iter().chain(above).chain(one_is_0).chain(most).chain(almost_most) {
+        assert_replay_refused(&with_numbers(numbers), &format!("{numbers:?}"));
+    }
+}
+
+#[test]
+fn replays_of_records_that_are_not_sound() {
+    let mut noise = noise();
+    for ((what, spoil), records) in FAULTS.into_iter().flat_map(|fault| [(fault, 5), (fault, u64::MAX)]) {
+        let mut replay = with_numbers([records, 2, 3, 31]);
+        spoil(&mut replay.kernel);
+        assert_replay_refused(&replay, what);
+    }
+    for _ in 0..50 {
+        assert_replay_refused(&Replay { kernel: noise.record(), ..with_numbers([5, 2, 3, 31]) }, "random bytes");
+    }
+}
+
+/// Nothing more is asked, though no recording leads to some of these.
+#[test]
+fn replays_with_numbers_that_are_let_through() {
+    let cut = 1 << 32;
+    let of_five = [[5, 0, 0, 31], [5, 2, 5, 0], [5, 5, 1, 1], [5, 5, 5, 1], [5, 1, 1, 30], [5, 1, 5, 30], [1, 1, 1, 31]];
+    let others = [[0, 0, 0, 0], [0, 0, 0, 31], [cut, 1, 1, 31], [cut, cut, cut, 31], [u64::MAX - 3, u64::MAX - 3, u64::MAX - 3, 31]];
+    for (numbers, block, size) in of_five.into_iter().chain(others).flat_map(|numbers| all_blocks().map(move |(block, size)| (numbers, block, size)))
+    {
+        let mut replay = Replay { part: block[..TRACE_SIZE].try_into().unwrap(), ..with_numbers(numbers) };
+        let mut twin = replay;
+        assert_ends(&replay, "before the block");
+        play_singly(&mut twin, &[&block[..numbers[3] as usize], &block[..size]].concat());
+        assert_eq!(replay.feed(&block[..size]), E_OK, "{numbers:?}: {size} bytes");
+        assert_same(&replay, &twin, &format!("{numbers:?}: {size} bytes"));
+        assert_ends(&replay, "after the block");
+    }
+}
+
+/// With so many records to go and every part, blocks of every length: E_PAR exactly where there is a record too many.
+#[test]
+fn the_most_records() {
+    for (room, length) in (0..=3).flat_map(|room| (0..TRACE_SIZE as u64).map(move |length| (room, length))) {
+        let most = u64::MAX - room;
+        for size in 0..=MOST_BYTES {
+            let (mut replay, block) = (with_numbers([most, most, 1, length]), &BLOCKS[1][..size]);
+            let (added, tail) = ((length + size as u64) / 32, (length + size as u64) % 32);
+            if added > room {
+                assert_block_refused(&replay, block, E_PAR, "a record too many");
+            } else {
+                assert_eq!(replay.feed(block), E_OK);
+                assert_eq!(replay.end(), Line { records: most + added, differ: most + added, first: 1, tail, ..zeros(E_OK) });
+                assert_eq!(replay.kernel, typical());
+            }
+        }
+    }
+}
+
+#[test]
+fn the_last_record() {
+    let mut replay = with_numbers([u64::MAX - 1, 0, 0, 0]);
+    assert_eq!(replay.feed(&BLOCKS[1][..32]), E_OK);
+    assert_eq!((replay.records, replay.differ, replay.first, replay.length), (u64::MAX, 1, u64::MAX, 0));
+    assert_eq!((replay.feed(&BLOCKS[0][..31]), replay.feed(&[])), (E_OK, E_OK));
+    assert_block_refused(&replay, &[0], E_PAR, "one byte that completes a record");
+    assert_eq!(replay.end().to_string(), "records 18446744073709551615 differ 1 first 18446744073709551615 tail 31");
 }

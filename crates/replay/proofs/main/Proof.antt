@@ -1,11 +1,10 @@
--- `main` ends, since the reads left get fewer, and keeps the replay sound.
+-- `main` ends, since the reads left get fewer.
 use borrow.Author.Needs.{needs}
-use Rattle.replays.specs.Replays.{SoundReplay}
 use Rattle.replay.proofs.main.Statement.{statement}
 use Rattle.replay.proofs.main.Tie as tie
 
 abbrev Inv-loop : tie.InvT-loop
-Inv-loop replay₀ reads-left₀ replay reads-left = SoundReplay replay
+Inv-loop replay₀ reads-left₀ replay reads-left = Unit {0}
 
 abbrev μ-loop : tie.MeasureT-loop
 μ-loop replay₀ reads-left₀ replay reads-left = reads-left

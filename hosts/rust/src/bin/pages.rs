@@ -1,13 +1,15 @@
 // Holds the reference pages, docs/calls/*.md, against the built kernel, so that neither changes without the other.
-// `pages [FOLDER]` plays every example of the pages, compares names, numbers and the order of rows with document 01's tables and with the header
-// and the wrapper, compares the bytes of recorded calls, and plays calls drawn at random to see which codes each call gives. It prints a line for each difference, with file and line,
-// and one for each page. It fails where anything differs. docs/calls/README.md has the examples' notation.
+// `pages [FOLDER]` plays every example of the pages, compares names, numbers and the order of rows with document 01's tables and with the header and
+// the wrapper, compares the bytes of recorded calls and those of a replay's fields, and plays calls drawn at random to see which codes each call
+// gives. It prints a line for each difference, with file and line, and one for each page. It fails where anything differs. docs/calls/README.md has
+// the examples' notation.
 use std::collections::BTreeSet;
 use std::fmt;
 use std::fs;
+use std::mem::{align_of, offset_of, size_of};
 use std::process::exit;
 
-use linguastel::{trace_table, Call, Record, TRACE_SIZE};
+use linguastel::{trace_table, Call, Record, Replay, TRACE_SIZE};
 
 // ── The kernel ──
 
@@ -135,11 +137,15 @@ impl Kernel {
         *self.waited_by.get(call.object as usize)?
     }
 
-    // The chains of tasks lead to numbers that no task has.
     fn damage(&mut self) {
-        self.record.waiting.link.fill(255);
+        damage(&mut self.record);
         self.damaged = true;
     }
+}
+
+// The chains of tasks lead to numbers that no task has.
+fn damage(record: &mut Record) {
+    record.waiting.link.fill(255);
 }
 
 // ── Document 01's tables ──
@@ -243,6 +249,51 @@ const TABLE_NAMES: [&str; 3] = ["linguastel_table", "linguastel_guarded_table", 
 const TRACE_FIELDS: [&str; 14] =
     ["number", "caller", "locked", "disabled", "object", "value", "tmout", "attribute", "kind", "code", "place", "a", "b", "c"];
 const TRACE_NAMES: [&str; 5] = ["linguastel_trace", "linguastel_trace_tick", "linguastel_trace_table", "trace", "trace_table"];
+
+// Document 02's replay in blocks: its checks in order, its functions' names, and the fields of a replay and of its line, with their first bytes.
+const REPLAY_STEPS: [(&str, &str); 2] = [("1", "E_SYS"), ("2", "E_PAR")];
+const REPLAY_NAMES: [&str; 12] = [
+    "linguastel_replay_empty",
+    "linguastel_replay_feed",
+    "linguastel_replay_end",
+    "linguastel_guarded_replay_empty",
+    "linguastel_guarded_replay_feed",
+    "linguastel_guarded_replay_end",
+    "linguastel_replay_size",
+    "linguastel_replay_align",
+    "empty",
+    "feed",
+    "end",
+    "replay_layout",
+];
+const REPLAY_FIELDS: [(&str, usize); 6] = [
+    ("records", offset_of!(Replay, records)),
+    ("differ", offset_of!(Replay, differ)),
+    ("first", offset_of!(Replay, first)),
+    ("length", offset_of!(Replay, length)),
+    ("kernel", offset_of!(Replay, kernel)),
+    ("part", offset_of!(Replay, part)),
+];
+const LINE_FIELDS: [(&str, usize); 6] = [
+    ("records", offset_of!(linguastel::Line, records)),
+    ("differ", offset_of!(linguastel::Line, differ)),
+    ("first", offset_of!(linguastel::Line, first)),
+    ("tail", offset_of!(linguastel::Line, tail)),
+    ("code", offset_of!(linguastel::Line, code)),
+    ("spare", offset_of!(linguastel::Line, spare)),
+];
+
+// The nearest numbers that check 1 refuses, each by one rule alone: records, differ, first, length. Then codes at the limit of records, with the
+// records, the length and the bytes of the block.
+const REFUSED_NUMBERS: [[u64; 4]; 5] = [[0, 0, 0, 32], [1, 2, 1, 0], [1, 1, 2, 0], [1, 1, 0, 0], [1, 0, 1, 0]];
+const RECORD_LIMITS: [(Outcome, u64, u64, usize); 6] = [
+    (E_PAR, u64::MAX, 0, 32),
+    (E_PAR, u64::MAX, 31, 1),
+    (E_PAR, u64::MAX - 1, 0, 64),
+    (E_OK, u64::MAX, 0, 0),
+    (E_OK, u64::MAX, 0, 31),
+    (E_OK, u64::MAX - 1, 0, 32),
+];
 
 fn can_refuse(step: &str, call: usize) -> bool {
     match step {
@@ -456,6 +507,137 @@ fn answer_of(outcome: Outcome, text: &str) -> Result<Answer, String> {
     Ok(answer)
 }
 
+// ── The same for replays ──
+
+enum ReplayStep {
+    // Fields that the host sets itself.
+    Set(Vec<(String, u64)>),
+    Damage,
+    Feed(Vec<u8>),
+    End,
+}
+
+// Pairs of a name and a number: 'records 5 differ 2'.
+fn pairs_in(text: &str) -> Result<Vec<(String, u64)>, String> {
+    let words: Vec<&str> = text.split_whitespace().collect();
+    let pair = |pair: &[&str]| match pair {
+        [name, number] => Ok((name.to_string(), parsed(number)?)),
+        _ => Err(format!("'{text}' isn't made of names and numbers")),
+    };
+    words.chunks(2).map(pair).collect()
+}
+
+// '01000001 05', in hexadecimal digits.
+fn bytes_in(digits: &str) -> Result<Vec<u8>, String> {
+    let byte = |pair: &[u8]| std::str::from_utf8(pair).ok().filter(|pair| pair.len() == 2).and_then(|pair| u8::from_str_radix(pair, 16).ok());
+    digits.as_bytes().chunks(2).map(|pair| byte(pair).ok_or(format!("'{digits}' aren't the digits of bytes"))).collect()
+}
+
+// '01000001 31 times 00'.
+fn block_in(words: &[&str]) -> Result<Vec<u8>, String> {
+    match words {
+        [] => Ok(vec![]),
+        [times, "times", digits, rest @ ..] => Ok([bytes_in(digits)?.repeat(parsed(times)?), block_in(rest)?].concat()),
+        [digits, rest @ ..] => Ok([bytes_in(digits)?, block_in(rest)?].concat()),
+    }
+}
+
+fn replay_step(text: &str) -> Result<ReplayStep, String> {
+    let words: Vec<&str> = text.split_whitespace().collect();
+    match words[..] {
+        [] => Err("a step is empty".to_string()),
+        ["damage"] => Ok(ReplayStep::Damage),
+        ["end"] => Ok(ReplayStep::End),
+        ["feed", ref block @ ..] => Ok(ReplayStep::Feed(block_in(block)?)),
+        _ => Ok(ReplayStep::Set(pairs_in(text)?)),
+    }
+}
+
+// 'records 2 differ 1'; a number that isn't written is 0.
+fn line_in(outcome: Outcome, text: &str) -> Result<linguastel::Line, String> {
+    let Outcome::Code(code) = outcome else {
+        return Err("a replay doesn't wait".to_string());
+    };
+    let mut line = linguastel::Line { records: 0, differ: 0, first: 0, tail: 0, code, spare: 0 };
+    for (name, number) in pairs_in(text)? {
+        match name.as_str() {
+            "records" => line.records = number,
+            "differ" => line.differ = number,
+            "first" => line.first = number,
+            "tail" => line.tail = number,
+            _ => return Err(format!("a line has no number '{name}'")),
+        }
+    }
+    Ok(line)
+}
+
+fn set_number(replay: &mut Replay, name: &str, number: u64) -> Result<(), String> {
+    match name {
+        "records" => replay.records = number,
+        "differ" => replay.differ = number,
+        "first" => replay.first = number,
+        "length" => replay.length = number,
+        _ => return Err(format!("there is no step '{name}'")),
+    }
+    Ok(())
+}
+
+// Plays one step. The end gives its line, a block its code with four zeros. What is refused, and the end, change nothing.
+fn play_replay(replay: &mut Replay, step: &ReplayStep) -> Result<Option<linguastel::Line>, String> {
+    let before = *replay;
+    let given = match step {
+        ReplayStep::Set(pairs) => {
+            pairs.iter().try_for_each(|(name, number)| set_number(replay, name, *number))?;
+            return Ok(None);
+        }
+        ReplayStep::Damage => {
+            damage(&mut replay.kernel);
+            return Ok(None);
+        }
+        ReplayStep::Feed(block) => line_in(Outcome::Code(replay.feed(block)), "")?,
+        ReplayStep::End => replay.end(),
+    };
+    let keeps = given.code != linguastel::E_OK || matches!(step, ReplayStep::End);
+    if keeps && *replay != before {
+        return Err("a refused block, or the end, changes something".to_string());
+    }
+    Ok(Some(given))
+}
+
+// Plays one step of which this is expected.
+fn play_replay_as(replay: &mut Replay, step: &ReplayStep, expected: linguastel::Line) -> Result<(), String> {
+    match play_replay(replay, step)? {
+        Some(given) if given == expected => Ok(()),
+        Some(given) => Err(format!("the library gives {} {given}", Outcome::Code(given.code))),
+        None => Err("the step is neither a block nor the end".to_string()),
+    }
+}
+
+// 'feed 00 -> E_OK', or 'end -> E_OK records 1'.
+fn play_replay_line(replay: &mut Replay, text: &str) -> Result<(), String> {
+    let (step, answer) = text.split_once(" -> ").ok_or("the step has no answer")?;
+    let (code, numbers) = answer.split_once(' ').unwrap_or((answer, ""));
+    play_replay_as(replay, &replay_step(step)?, line_in(outcome_named(code)?, numbers)?)
+}
+
+// What an example shows: the replay before its last step, how many bytes that has where it is a block, and its code.
+struct ReplayShown {
+    replay: Replay,
+    bytes: Option<usize>,
+    outcome: Outcome,
+}
+
+impl ReplayShown {
+    fn numbers(&self) -> [u64; 4] {
+        [self.replay.records, self.replay.differ, self.replay.first, self.replay.length]
+    }
+
+    // Refused by the kernel's state alone.
+    fn is_damaged(&self) -> bool {
+        self.numbers() == [0; 4] && !self.replay.kernel.is_sound()
+    }
+}
+
 // Plays one step; a call gives its answer.
 fn play(kernel: &mut Kernel, step: &Step, seen: &mut Seen) -> Option<Answer> {
     match step {
@@ -518,6 +700,11 @@ impl Section {
         self.title == "trace"
     }
 
+    // What is said of the replay in blocks.
+    fn is_of_replays(&self) -> bool {
+        self.title == "replay"
+    }
+
     // '4 snd_dtq' is a call's title.
     fn call(&self) -> Option<(usize, &str)> {
         let (number, name) = self.title.split_once(' ')?;
@@ -563,13 +750,16 @@ fn page_of(file: &str, text: &str) -> Page {
     Page { file: file.to_string(), sections }
 }
 
+// Programs in C and in Rust, which hosts/check compiles and runs.
+type Sources = [(&'static str, &'static str); 2];
+const DEMOS: Sources = [("c", include_str!("../../../c/demo.c")), ("rust", include_str!("demo.rs"))];
+const REPLAYS: Sources = [("c", include_str!("../../../c/replay.c")), ("rust", include_str!("replay.rs"))];
+
 impl Block {
-    // Whether lines of code are lines of the demo in that language, which hosts/check compiles and runs.
-    fn is_in_source(&self) -> bool {
-        let source = match self.kind.as_str() {
-            "c" => include_str!("../../../c/demo.c"),
-            "rust" => include_str!("demo.rs"),
-            _ => return true,
+    // Whether lines of code are lines of the program in that language.
+    fn is_in(&self, sources: &Sources) -> bool {
+        let Some((_, source)) = sources.iter().find(|(kind, _)| *kind == self.kind) else {
+            return true;
         };
         let source: Vec<&str> = source.lines().map(str::trim).collect();
         let lines: Vec<&str> = self.lines.iter().map(|line| line.text.trim()).collect();
@@ -630,7 +820,7 @@ const ENDS: [&str; 4] = ["The wait ends by", "Code", "Word", "Example"];
 const PARAMETERS: [&str; 3] = ["Parameter", "Field", "Values"];
 const CODE_LIST: [&str; 3] = ["Code", "Number", "Meaning"];
 const CALL_LIST: [&str; 3] = ["No.", "Call", "Page"];
-const TRACE_BYTES: [&str; 3] = ["Bytes", "Field", "Holds"];
+const BYTES: [&str; 3] = ["Bytes", "Field", "Holds"];
 const TRACED: [&str; 4] = ["Recorded", "Code", "When", "Example"];
 
 struct Check {
@@ -875,20 +1065,100 @@ impl Check {
     // The section on traces.
     fn check_recording(&mut self, page: &Page, section: &Section) {
         self.check_names(page, section, &TRACE_NAMES.map(String::from));
-        for kind in ["trace", "c", "rust"] {
-            self.expect(section.blocks.iter().any(|block| block.kind == kind), page, section.at, &format!("no example is one of '{kind}'"));
-        }
-        for block in &section.blocks {
-            let at = block.lines.first().map_or(section.at, |line| line.at);
-            self.expect(block.is_in_source(), page, at, "the demo has no such lines");
-        }
-        let (Some(bytes), Some(traced)) = (section.table(&TRACE_BYTES), section.table(&TRACED)) else {
+        self.check_blocks(page, section, "trace", &DEMOS);
+        let (Some(bytes), Some(traced)) = (section.table(&BYTES), section.table(&TRACED)) else {
             return self.differs(page, section.at, "the table of bytes or that of recorded calls is missing");
         };
         self.check_bytes(page, section.at, bytes);
         for row in &traced.rows {
             let played = self.play_row(page, row, Check::play_recorded);
             self.expect(played.iter().all(|records| records.to_string() == row.1[0]), page, row.0, "an example adds more or less to a trace");
+        }
+    }
+
+    // There is a worked example of this kind, and lines of both programs.
+    fn check_blocks(&mut self, page: &Page, section: &Section, worked: &str, sources: &Sources) {
+        for kind in [worked, "c", "rust"] {
+            self.expect(section.blocks.iter().any(|block| block.kind == kind), page, section.at, &format!("no example is one of '{kind}'"));
+        }
+        for block in &section.blocks {
+            let at = block.lines.first().map_or(section.at, |line| line.at);
+            self.expect(block.is_in(sources), page, at, "the program has no such lines");
+        }
+    }
+
+    // The section on replays in blocks.
+    fn check_replay(&mut self, page: &Page, section: &Section) {
+        self.check_names(page, section, &REPLAY_NAMES.map(String::from));
+        self.check_blocks(page, section, "replay", &REPLAYS);
+        let bytes: Vec<&Table> = section.tables.iter().filter(|table| table.header == BYTES).collect();
+        let ([of_replay, of_line], Some(checks)) = (&bytes[..], section.table(&TABLE_CHECKS)) else {
+            return self.differs(page, section.at, "the tables of fields or that of checks are missing");
+        };
+        self.check_fields(page, section.at, of_replay, &REPLAY_FIELDS, size_of::<Replay>());
+        self.check_fields(page, section.at, of_line, &LINE_FIELDS, size_of::<linguastel::Line>());
+        self.check_order(page, checks, &REPLAY_STEPS, |outcome| outcome == E_OK);
+        self.check_steps(page, section.at, checks, &REPLAY_STEPS, |_| true);
+        let shown: Vec<ReplayShown> = checks.rows.iter().flat_map(|row| self.play_row(page, row, Check::play_replay_example)).collect();
+        self.check_replays_shown(page, section.at, &shown);
+    }
+
+    // Every field has a row, in order, with its bytes.
+    fn check_fields(&mut self, page: &Page, at: usize, table: &Table, fields: &[(&str, usize)], size: usize) {
+        let ends = fields.iter().skip(1).map(|field| field.1).chain([size]);
+        let right: Vec<[String; 2]> =
+            fields.iter().zip(ends).map(|((name, first), end)| [format!("{first} to {}", end - 1), format!("`{name}`")]).collect();
+        let written: Vec<&[String]> = table.rows.iter().map(|row| &row.1[..2]).collect();
+        self.expect(written == right, page, at, "these aren't the fields with their bytes");
+    }
+
+    // Each rule of check 1 has an example with a block of no bytes, with one that has bytes, and with the end. The limit of records has its examples.
+    fn check_replays_shown(&mut self, page: &Page, at: usize, shown: &[ReplayShown]) {
+        let ways: [(&str, fn(Option<usize>) -> bool); 3] = [
+            ("a block of no bytes", |bytes| bytes == Some(0)),
+            ("a block", |bytes| bytes.is_some_and(|bytes| bytes > 0)),
+            ("the end", |bytes| bytes.is_none()),
+        ];
+        for (what, way) in ways {
+            let of_way: Vec<&ReplayShown> = shown.iter().filter(|one| one.outcome == E_SYS && way(one.bytes)).collect();
+            self.expect(of_way.iter().any(|one| one.is_damaged()), page, at, &format!("no example shows that damage refuses {what}"));
+            for numbers in REFUSED_NUMBERS {
+                let is_shown = of_way.iter().any(|one| one.numbers() == numbers && one.replay.kernel.is_sound());
+                self.expect(is_shown, page, at, &format!("no example shows that {numbers:?} refuse {what}"));
+            }
+        }
+        for (outcome, records, length, bytes) in RECORD_LIMITS {
+            let limit = (outcome, records, length, Some(bytes));
+            let is_shown = shown.iter().any(|one| (one.outcome, one.replay.records, one.replay.length, one.bytes) == limit);
+            self.expect(is_shown, page, at, &format!("no example shows {outcome} with records {records} length {length} and {bytes} bytes"));
+        }
+    }
+
+    // An example of a replay, from a new one. The steps before the last are accepted.
+    fn play_replay_example(&mut self, outcome: Outcome, text: &str) -> Result<ReplayShown, String> {
+        let (steps, words) = text.split_once("->").unwrap_or((text, ""));
+        let (before, last) = steps.rsplit_once(';').map_or((None, steps), |(before, last)| (Some(before), last));
+        let mut replay = Replay::empty();
+        for step in before.iter().flat_map(|before| before.split(';')) {
+            let given = play_replay(&mut replay, &replay_step(step)?)?;
+            if given.is_some_and(|line| line.code != linguastel::E_OK) {
+                return Err("a step before the last isn't accepted".to_string());
+            }
+        }
+        let (step, found) = (replay_step(last)?, replay);
+        play_replay_as(&mut replay, &step, line_in(outcome, words)?)?;
+        let bytes = if let ReplayStep::Feed(block) = &step { Some(block.len()) } else { None };
+        Ok(ReplayShown { replay: found, bytes, outcome })
+    }
+
+    // Plays a worked example of a replay, in which every block and every end has its answer behind an arrow.
+    fn play_replay_block(&mut self, page: &Page, block: &Block) {
+        let mut replay = Replay::empty();
+        self.examples += 1;
+        for line in &block.lines {
+            if let Err(what) = play_replay_line(&mut replay, &line.text) {
+                self.differs(page, line.at, &format!("'{}': {what}", line.text));
+            }
         }
     }
 
@@ -963,10 +1233,14 @@ impl Check {
                 Some((call, name)) => self.check_call(page, section, call, name),
                 None if section.is_of_tables() => self.check_call_table(page, section),
                 None if section.is_of_traces() => self.check_recording(page, section),
+                None if section.is_of_replays() => self.check_replay(page, section),
                 None => self.check_common(page, section),
             }
             for block in section.blocks.iter().filter(|block| ["calls", "trace"].contains(&block.kind.as_str())) {
                 self.play_block(page, block);
+            }
+            for block in section.blocks.iter().filter(|block| block.kind == "replay") {
+                self.play_replay_block(page, block);
             }
         }
         self.examples - before
@@ -1116,8 +1390,8 @@ fn setting_of(pages: &[Page], seen: &mut Seen) -> Result<Kernel, String> {
     Ok(kernel)
 }
 
-// What differs on no page in particular: each call has one section and so have tables of calls and traces, each common table is there once, an unknown
-// number gives E_PAR alone, and header and wrapper name the most calls of a table and the bytes of a recorded call.
+// What differs on no page in particular: each call has one section and so have tables of calls, traces and replays, each common table is there once,
+// an unknown number gives E_PAR alone, and header and wrapper name the most calls of a table, the bytes of a recorded call and those of a replay.
 fn differences(pages: &[Page], seen: &Seen) -> Vec<String> {
     let (calls, common): (Vec<&Section>, Vec<&Section>) = pages.iter().flat_map(|page| &page.sections).partition(|section| section.call().is_some());
     let sections = |call: usize| calls.iter().filter(|section| section.call().is_some_and(|found| found.0 == call)).count();
@@ -1136,6 +1410,13 @@ fn differences(pages: &[Page], seen: &Seen) -> Vec<String> {
     if common.iter().filter(|section| section.is_of_traces()).count() != 1 {
         found.push("the section 'trace' isn't there once".to_string());
     }
+    if common.iter().filter(|section| section.is_of_replays()).count() != 1 {
+        found.push("the section 'replay' isn't there once".to_string());
+    }
+    let (size, align) = (size_of::<Replay>(), align_of::<Replay>());
+    if ![format!("LINGUASTEL_REPLAY_SIZE = {size},"), format!("LINGUASTEL_REPLAY_ALIGN = {align}\n")].iter().all(|text| HEADER.contains(text)) {
+        found.push("the header names another size or alignment of a replay than the wrapper has".to_string());
+    }
     if TRACE_SIZE != 32 || !HEADER.contains("LINGUASTEL_TRACE_SIZE = 32,") {
         found.push("the header or the wrapper names another number of bytes for a recorded call than 32".to_string());
     }
@@ -1148,9 +1429,10 @@ fn differences(pages: &[Page], seen: &Seen) -> Vec<String> {
 const HEADER: &str = include_str!("../../../c/linguastel.h");
 const WRAPPER: &str = include_str!("../lib.rs");
 
-// The functions that hosts call: those of the header, which give an answer, a code or a size, and the wrapper's.
+// The functions that hosts call: those of the header, which give an answer, a line, a code, a size, yes or no, or nothing, and the wrapper's.
 fn declared() -> BTreeSet<String> {
-    let in_c = ["LinguastelAnswer ", "int32_t ", "size_t "].into_iter().flat_map(|gives| HEADER.split(gives).skip(1));
+    let in_c =
+        ["LinguastelAnswer ", "LinguastelLine ", "int32_t ", "size_t ", "bool ", "void "].into_iter().flat_map(|gives| HEADER.split(gives).skip(1));
     let in_rust = WRAPPER.split("pub fn ").skip(1);
     in_c.chain(in_rust).filter_map(|text| text.split_once(['(', '<'])).map(|(name, _)| name.to_string()).collect()
 }
