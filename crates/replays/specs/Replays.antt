@@ -36,13 +36,15 @@ part-of r = take (r .length) (r .part)
 abbrev pub meaning : Replay → Replaying
 meaning r = record { state = abs (r .state); numbers = numbers-of (r .tally); part = part-of r }
 
--- "A replay state with an unsound kernel state, a part above 31 bytes, differ or first above records, or only one of these two 0" is refused; every other is
--- sound (our own term, for a replay state), and nothing more is asked of one. The size of the array is its type's, holds of every replay state, and stands here
--- so that whoever has a sound one has it.
+-- The replay states that item 5 lets through are sound (our own term, for a replay state): nothing more is asked of one, and nothing less.
 pub record SoundReplay (r : Replay) : Type 0 where
+  -- "an unsound kernel state" is refused.
   pub sound : Sound (r .state)
+  -- "a part above 31 bytes".
   pub part-within : r .length ≤ 31
+  -- The array's size is its type's: it holds of every replay state, and stands here so that whoever has a sound one has it.
   pub part-size : length (r .part) ≡ 32
+  -- "differ or first above records, or only one of these two 0".
   pub possible : Possible (numbers-of (r .tally))
 
 -- ── A record ──
