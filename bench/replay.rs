@@ -1,7 +1,8 @@
 //! What bench/replay runs. `replay trace MIX SEED FILE SIZE...` writes a trace of as many records as the last size and prints what it has up to each
 //! size; `replay play tested` and `replay play untested` replay standard input on the Rust kernel, with its test of the record before each call and
-//! without it, and print the line of document 02, item 3; `replay times COUNT FILE` plays a file with every program in turn, as often as COUNT says, and
-//! prints the median times of each in nanoseconds. What is printed for bench/replay has tabs between its fields.
+//! without it, and print the line of document 02, item 3; `replay play blocks LENGTH` feeds standard input to the library's replay in blocks of so many
+//! bytes and prints the same line; `replay times COUNT FILE` plays a file with every program in turn, as often as COUNT says, and prints the median times
+//! of each in nanoseconds. What is printed for bench/replay has tabs between its fields.
 mod traces;
 
 use linguastel::number::FETCH;
@@ -81,6 +82,22 @@ fn play(kernel: impl Fn(&mut Record, Call) -> Answer) -> io::Result<()> {
         block.copy_within(have - part..have, 0);
     }
     println!("records {} differ {} first {} tail {part}", replay.records, replay.differ, replay.first);
+    Ok(())
+}
+
+// ── The library's replay ──
+
+// All of the input is read first, so that however it is cut the reads are the same.
+fn play_blocks(length: usize) -> io::Result<()> {
+    let mut bytes = Vec::new();
+    io::stdin().lock().read_to_end(&mut bytes)?;
+    let mut replay = linguastel::Replay::empty();
+    for block in bytes.chunks(length) {
+        if replay.feed(block) != linguastel::E_OK {
+            return Err(io::Error::other("a block is refused"));
+        }
+    }
+    println!("{}", replay.end());
     Ok(())
 }
 
@@ -185,6 +202,7 @@ fn command(words: &[&str]) -> Option<Result<(), String>> {
     let played = match *words {
         ["play", "tested"] => play(baseline::call),
         ["play", "untested"] => play(baseline::call_untested),
+        ["play", "blocks", length] => play_blocks(length.parse().ok().filter(|length| *length > 0)?),
         ["times", count, file] => return Some(times(count.parse().ok()?, file)),
         ["trace", mix, seed, file, ref sizes @ ..] => {
             let sizes: Option<Vec<u64>> = sizes.iter().map(|size| size.parse().ok()).collect();
@@ -205,7 +223,7 @@ fn main() {
             exit(1);
         }
         None => {
-            eprintln!("replay trace MIX SEED FILE SIZE..., play tested, play untested, or times COUNT FILE");
+            eprintln!("replay trace MIX SEED FILE SIZE..., play tested, play untested, play blocks LENGTH, or times COUNT FILE");
             exit(2);
         }
     }

@@ -376,7 +376,7 @@ void linguastel_replay_empty(LinguastelReplay *replay);
  * E_SYS: the kernel's state isn't sound, length is above 31, differ or first is above records, or only one of these two is 0. Then E_PAR: the block would
  * take records past 64 bits. Either way nothing is done, and nothing is written into the replay.
  *
- * The pointer of the block isn't null even where size is 0; linguastel_guarded_replay_feed takes null there.
+ * The pointer of the block isn't null even where size is 0; linguastel_guarded_replay_feed takes null there. The function takes up to 28 KB of stack.
  */
 int32_t linguastel_replay_feed(LinguastelReplay *replay, const uint8_t *block, size_t size);
 
