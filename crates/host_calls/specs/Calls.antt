@@ -27,10 +27,11 @@ call-of x = record {
   attribute = x .attribute;
 }
 
--- The kind is 0 for a finished answer, which has a code, and 1 for one that waits, which has a place.
+-- The kind is 0 for a finished answer, which has a code, and 1 for one that waits, which has a place. Its code is 1, which is none of document 01's: a host
+-- that asks for E_OK alone doesn't take a call that waits for one that is done.
 abbrev pub code-of : Outcome → ℤ
 code-of (Finished code) = number code
-code-of (Waits place) = pos 0
+code-of (Waits place) = pos 1
 
 abbrev pub place-of : Outcome → ℕ
 place-of (Finished code) = 0

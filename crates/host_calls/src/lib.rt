@@ -7,6 +7,9 @@ use model::Call;
 use model::Code;
 use model::Outcome;
 
+// The version of what hosts get, which they compare with that of their header: specs/Version.antt says when it changes.
+pub const VERSION: u32 = 1500;
+
 // A call with its context. Its numbers are wide, so that none that is too large, or negative, is cut down to a task's or an object's.
 #[repr(C)]
 pub struct HostCall {
@@ -26,7 +29,7 @@ pub struct HostCall {
 pub struct HostAnswer {
     // 0 finished, 1 waits.
     pub kind: u32,
-    // Of a finished answer; else 0.
+    // Of a finished answer; else 1, which is no code.
     pub code: i32,
     // Of one that waits; else 0.
     pub place: u32,
@@ -96,7 +99,7 @@ pub fn answer_of(answer: Answer) -> HostAnswer
         },
         Outcome::Waits(place) => HostAnswer {
             kind: 1,
-            code: 0,
+            code: 1,
             place,
             a: answer.a,
             b: answer.b,

@@ -6,7 +6,8 @@ use Rattle.replays.specs.Files.{EveryFile}
 use Rattle.host_replay.specs.Replay.{replay-of, BlockTaken}
 use Rattle.demands.specs.Runs.{ListsRun}
 
--- Every file, in any blocks, from a record that linguastel_replay_empty has made: each block is taken, and linguastel_replay_end gives the file's line.
+-- Every file, in any blocks, from a record that linguastel_unguarded_replay_empty has made: each block is taken, and linguastel_unguarded_replay_end gives the
+-- file's line.
 abbrev pub EveryFileForHosts : Type 0
 EveryFileForHosts = EveryFile replay-of number
 

@@ -18,7 +18,7 @@ IsolatedManyThroughEntry = IsolatedMany state-engine through-entry
 abbrev pub IsolatedForHosts : Type 0
 IsolatedForHosts = Isolated host-engine for-hosts
 
--- From the record that `linguastel_empty` leaves, nothing more is asked of it.
+-- From the record that `linguastel_unguarded_empty` leaves, nothing more is asked of it.
 abbrev pub IsolatedForHostsFromEmpty : Type 0
 IsolatedForHostsFromEmpty = IsolatedFromEmpty host-engine for-hosts
 

@@ -5,3 +5,5 @@ pub mod Tables
 pub mod Numbers
 pub mod Promises
 pub mod ByCall
+pub mod Zeroed
+pub mod Sets

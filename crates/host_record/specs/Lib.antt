@@ -4,3 +4,5 @@ pub mod Written
 pub mod Numbers
 pub mod Step
 pub mod ByCall
+pub mod Zeroed
+pub mod Sets

@@ -10,6 +10,9 @@ ghost use Rattle.tables.specs.Tested.{TestedAs};
 ghost use Rattle.decide.specs.Touches.{every-task};
 ghost use Rattle.host_record.specs.Written.{TasksWritten, restored};
 ghost use Rattle.host_record.specs.Step.{CallJudged, Said, Stored};
+ghost use Rattle.host_record.specs.Sets.{SetsOf};
+ghost use mathlib.Core.Bool.{cond};
+ghost use Prim.Native.Nat.{_<_, _+_, _*_};
 ghost use Rattle.host_calls.specs.Calls.{call-of, answer-of};
 ghost use Rattle.kernel.specs.Steps.{Weighed};
 use chain::Chains;
@@ -120,6 +123,45 @@ pub fn empty() -> HostRecord
         mailboxes,
         spare: 0,
     }
+}
+
+// ── Which tasks wait, and which can run ──
+
+// Bit n - 1 of each number stands for task n.
+#[repr(C)]
+pub struct TaskSets {
+    pub waiting: u32,
+    pub runnable: u32,
+}
+
+// The set with one number more in front of the rest, whose bits move up.
+fn with_first(rest: u32, has: bool) -> u32
+    requires { ⌜ rest < 2147483648 ⌝ }
+    ensures { λ r. ⌜ r ≡ cond has 1 0 + 2 * rest ⌝ }
+{
+    if has {
+        return 1 + 2 * rest;
+    }
+    2 * rest
+}
+
+// What look tells of one task, of all of them, whatever the record is.
+pub fn task_sets(lent: HostRecord) -> TaskSets
+    ensures { λ r. ⌜ SetsOf lent r ⌝ }
+{
+    let numbers = lent.tasks;
+    let mut waiting: u32 = 0;
+    let mut runnable: u32 = 0;
+    let mut t: usize = TASK_CELLS;
+    while 1 < t {
+        t -= 1;
+        let task = host_tasks::read_task(numbers[t]);
+        let wait = task.wait;
+        let waits = parts::wait_number(wait) != 0;
+        waiting = with_first(waiting, waits);
+        runnable = with_first(runnable, task.defined & !waits & !task.suspended);
+    }
+    TaskSets { waiting, runnable }
 }
 
 // ── The parts of a call on a lent record; crate linguastel puts them together ──

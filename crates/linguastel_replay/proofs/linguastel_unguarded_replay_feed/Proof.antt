@@ -1,4 +1,4 @@
--- `linguastel_replay_feed` meets its contract: it is a thin entry to `host_replay::feed`, which takes a block of bytes.
+-- `linguastel_unguarded_replay_feed` meets its contract: it is a thin entry to `host_replay::feed`, which takes a block of bytes.
 use mathlib.Core.Path.{_≡_, refl, subst}
 use mathlib.Core.Bool.{not}
 use mathlib.Core.List.{List}
@@ -25,18 +25,18 @@ use Rattle.host_replay.proofs.feed as feed
 use Rattle.host_replay.proofs.feed.Symbol as feed-def
 use Rattle.host_replay.proofs.feed.Symbol.{name as #feed}
 use Rattle.host_replay.proofs.feed.Met as feed-thm
-use Rattle.linguastel_replay.proofs.linguastel_replay_feed as f
-use Rattle.linguastel_replay.proofs.linguastel_replay_feed.Key.{name as #f}
-use Rattle.linguastel_replay.proofs.linguastel_replay_feed.Statement as stated
-use Rattle.linguastel_replay.proofs.linguastel_replay_feed.Code as code
+use Rattle.linguastel_replay.proofs.linguastel_unguarded_replay_feed as f
+use Rattle.linguastel_replay.proofs.linguastel_unguarded_replay_feed.Key.{name as #f}
+use Rattle.linguastel_replay.proofs.linguastel_unguarded_replay_feed.Statement as stated
+use Rattle.linguastel_replay.proofs.linguastel_unguarded_replay_feed.Code as code
 
 -- What `host_replay::feed` ensures.
 abbrev Fed : HostReplay → List ℕ → HostFed → Type 0
 Fed h bytes r = BlockTaken h bytes (r .replay) (r .code) × (T (not (r .taken)) → r .replay ≡ h)
 
-pub linguastel-replay-feed-spec : {M : Type 1} → stated.statement M
+pub linguastel-unguarded-replay-feed-spec : {M : Type 1} → stated.statement M
 unfolding code.routine tablesOf
-linguastel-replay-feed-spec 𝓤 H 𝓜 𝓖 𝓡 =
+linguastel-unguarded-replay-feed-spec 𝓤 H 𝓜 𝓖 𝓡 =
     let A = 𝓖 .A in
     let W = givenOf 𝓤 H 𝓜 𝓖 in
     let 𝓣 = tables 𝓤 H 𝓜 𝓡 code.env in

@@ -1,4 +1,4 @@
--- `linguastel_empty` meets its contract: it fills the lent record by `host_record::empty`.
+-- `linguastel_unguarded_empty` meets its contract: it fills the lent record by `host_record::empty`.
 use mathlib.Core.Path.{_≡_}
 use contract.Running.{givenOf, tables, tablesOf}
 use denote.Triple.Spec.{tripleOf}
@@ -12,14 +12,14 @@ use Rattle.host_record.proofs.empty as empty
 use Rattle.host_record.proofs.empty.Symbol as empty-def
 use Rattle.host_record.proofs.empty.Symbol.{name as #empty}
 use Rattle.host_record.proofs.empty.Met as empty-thm
-use Rattle.linguastel.proofs.linguastel_empty as f
-use Rattle.linguastel.proofs.linguastel_empty.Key.{name as #made}
-use Rattle.linguastel.proofs.linguastel_empty.Statement as stated
-use Rattle.linguastel.proofs.linguastel_empty.Code as code
+use Rattle.linguastel.proofs.linguastel_unguarded_empty as f
+use Rattle.linguastel.proofs.linguastel_unguarded_empty.Key.{name as #made}
+use Rattle.linguastel.proofs.linguastel_unguarded_empty.Statement as stated
+use Rattle.linguastel.proofs.linguastel_unguarded_empty.Code as code
 
-pub linguastel-empty-spec : {M : Type 1} → stated.statement M
+pub linguastel-unguarded-empty-spec : {M : Type 1} → stated.statement M
 unfolding code.routine tablesOf
-linguastel-empty-spec 𝓤 H 𝓜 𝓖 𝓡 =
+linguastel-unguarded-empty-spec 𝓤 H 𝓜 𝓖 𝓡 =
     let A = 𝓖 .A in
     let 𝓣 = tables 𝓤 H 𝓜 𝓡 code.env in
     entered 𝓤 H (tripleOf 𝓤 H A f.signature (f.spec 𝓤 H A (𝓜 .mem) (𝓡 .run))) (𝓣 .C) (𝓣 .Λ) #made code.function (code.unfolded 𝓤 H 𝓜 𝓡)

@@ -1,4 +1,4 @@
--- `linguastel_call` meets its contract: it is a thin entry that judges before it stores, and its parts make up a step.
+-- `linguastel_unguarded_call` meets its contract: it is a thin entry that judges before it stores, and its parts make up a step.
 use mathlib.Core.Path.{_≡_, refl}
 use contract.Running.{givenOf, tables, tablesOf}
 use denote.Struct.Declared.{shape}
@@ -50,14 +50,14 @@ use Rattle.host_record.proofs.said as said
 use Rattle.host_record.proofs.said.Symbol as said-def
 use Rattle.host_record.proofs.said.Symbol.{name as #said}
 use Rattle.host_record.proofs.said.Met as said-thm
-use Rattle.linguastel.proofs.linguastel_call as f
-use Rattle.linguastel.proofs.linguastel_call.Key.{name as #call}
-use Rattle.linguastel.proofs.linguastel_call.Statement as stated
-use Rattle.linguastel.proofs.linguastel_call.Code as code
+use Rattle.linguastel.proofs.linguastel_unguarded_call as f
+use Rattle.linguastel.proofs.linguastel_unguarded_call.Key.{name as #call}
+use Rattle.linguastel.proofs.linguastel_unguarded_call.Statement as stated
+use Rattle.linguastel.proofs.linguastel_unguarded_call.Code as code
 
-pub linguastel-call-spec : {M : Type 1} → stated.statement M
+pub linguastel-unguarded-call-spec : {M : Type 1} → stated.statement M
 unfolding code.routine tablesOf
-linguastel-call-spec 𝓤 H 𝓜 𝓖 𝓡 =
+linguastel-unguarded-call-spec 𝓤 H 𝓜 𝓖 𝓡 =
     let A = 𝓖 .A in
     let W = givenOf 𝓤 H 𝓜 𝓖 in
     let 𝓣 = tables 𝓤 H 𝓜 𝓡 code.env in

@@ -1,4 +1,4 @@
--- `linguastel_replay_empty` meets its contract: it fills the lent record by `host_replay::empty`.
+-- `linguastel_unguarded_replay_empty` meets its contract: it fills the lent record by `host_replay::empty`.
 use contract.Running.{givenOf, tables, tablesOf}
 use denote.Triple.Spec.{tripleOf}
 use denote.Triple.Table.{entered, cited}
@@ -11,14 +11,14 @@ use Rattle.host_replay.proofs.empty as empty
 use Rattle.host_replay.proofs.empty.Symbol as empty-def
 use Rattle.host_replay.proofs.empty.Symbol.{name as #empty}
 use Rattle.host_replay.proofs.empty.Met as empty-thm
-use Rattle.linguastel_replay.proofs.linguastel_replay_empty as f
-use Rattle.linguastel_replay.proofs.linguastel_replay_empty.Key.{name as #made}
-use Rattle.linguastel_replay.proofs.linguastel_replay_empty.Statement as stated
-use Rattle.linguastel_replay.proofs.linguastel_replay_empty.Code as code
+use Rattle.linguastel_replay.proofs.linguastel_unguarded_replay_empty as f
+use Rattle.linguastel_replay.proofs.linguastel_unguarded_replay_empty.Key.{name as #made}
+use Rattle.linguastel_replay.proofs.linguastel_unguarded_replay_empty.Statement as stated
+use Rattle.linguastel_replay.proofs.linguastel_unguarded_replay_empty.Code as code
 
-pub linguastel-replay-empty-spec : {M : Type 1} → stated.statement M
+pub linguastel-unguarded-replay-empty-spec : {M : Type 1} → stated.statement M
 unfolding code.routine tablesOf
-linguastel-replay-empty-spec 𝓤 H 𝓜 𝓖 𝓡 =
+linguastel-unguarded-replay-empty-spec 𝓤 H 𝓜 𝓖 𝓡 =
     let A = 𝓖 .A in
     let 𝓣 = tables 𝓤 H 𝓜 𝓡 code.env in
     entered 𝓤 H (tripleOf 𝓤 H A f.signature (f.spec 𝓤 H A (𝓜 .mem) (𝓡 .run))) (𝓣 .C) (𝓣 .Λ) #made code.function (code.unfolded 𝓤 H 𝓜 𝓡)

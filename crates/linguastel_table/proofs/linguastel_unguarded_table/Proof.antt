@@ -1,4 +1,4 @@
--- `linguastel_table` meets its contract: it is a walk over two lent tables, and its parts make up a table on the record that is written back.
+-- `linguastel_unguarded_table` meets its contract: it is a walk over two lent tables, and its parts make up a table on the record that is written back.
 use mathlib.Core.Path.{_≡_, refl, sym, subst}
 use mir.Syntax.{w32, tyInt}
 use mir.Val.{vint, ofZ}
@@ -67,10 +67,10 @@ use Rattle.host_record.proofs.restored as restored
 use Rattle.host_record.proofs.restored.Symbol as restored-def
 use Rattle.host_record.proofs.restored.Symbol.{name as #restored}
 use Rattle.host_record.proofs.restored.Met as restored-thm
-use Rattle.linguastel_table.proofs.linguastel_table as f
-use Rattle.linguastel_table.proofs.linguastel_table.Key.{name as #linguastel_table}
-use Rattle.linguastel_table.proofs.linguastel_table.Statement as stated
-use Rattle.linguastel_table.proofs.linguastel_table.Code as code
+use Rattle.linguastel_table.proofs.linguastel_unguarded_table as f
+use Rattle.linguastel_table.proofs.linguastel_unguarded_table.Key.{name as #linguastel_unguarded_table}
+use Rattle.linguastel_table.proofs.linguastel_unguarded_table.Statement as stated
+use Rattle.linguastel_table.proofs.linguastel_unguarded_table.Code as code
 
 -- What is read outside a table, which no turn does.
 abbrev no-call : HostCall
@@ -79,13 +79,13 @@ no-call = record { number = 0; caller = 0; locked = 0; disabled = 0; object = 0;
 abbrev no-answer : HostAnswer
 no-answer = record { kind = 0; code = pos 0; place = 0; a = 0; b = 0; c = 0 }
 
-pub linguastel-table-spec : {M : Type 1} → stated.statement M
+pub linguastel-unguarded-table-spec : {M : Type 1} → stated.statement M
 unfolding code.routine tablesOf
-linguastel-table-spec 𝓤 H 𝓜 𝓖 𝓡 =
+linguastel-unguarded-table-spec 𝓤 H 𝓜 𝓖 𝓡 =
     let A = 𝓖 .A in
     let W = givenOf 𝓤 H 𝓜 𝓖 in
     let 𝓣 = tables 𝓤 H 𝓜 𝓡 code.env in
-    entered 𝓤 H (tripleOf 𝓤 H A f.signature (f.spec 𝓤 H A (𝓜 .mem) (𝓡 .run))) (𝓣 .C) (𝓣 .Λ) #linguastel_table code.function (code.unfolded 𝓤 H 𝓜 𝓡)
+    entered 𝓤 H (tripleOf 𝓤 H A f.signature (f.spec 𝓤 H A (𝓜 .mem) (𝓡 .run))) (𝓣 .C) (𝓣 .Λ) #linguastel_unguarded_table code.function (code.unfolded 𝓤 H 𝓜 𝓡)
     (meets 𝓤 H A W T.the-type S.the-type X.the-type J.the-type Y.the-type N.the-type D.the-type T′.the-laws S′.the-laws X′.the-laws J′.the-laws Y′.the-laws N′.the-laws D′.the-laws
     T′.the-plain S′.the-plain X′.the-plain J′.the-plain Y′.the-plain N′.the-plain D′.the-plain D′.the-copy
     ℤ (tyInt w32) (i32 .written) (i32 .reaches) (i32 .own) (i32 .coded) (λ z. vint w32 (ofZ w32 z)) (sint-lawful 𝓤 H A W w32) (sint-makes 𝓤 H A W w32)

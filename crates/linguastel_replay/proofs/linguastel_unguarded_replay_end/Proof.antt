@@ -1,4 +1,4 @@
--- `linguastel_replay_end` meets its contract: it is a thin entry that only reads, by `host_replay::end`.
+-- `linguastel_unguarded_replay_end` meets its contract: it is a thin entry that only reads, by `host_replay::end`.
 use contract.Running.{givenOf, tables, tablesOf}
 use denote.Triple.Spec.{tripleOf}
 use denote.Triple.Table.{entered, cited}
@@ -12,14 +12,14 @@ use Rattle.host_replay.proofs.end as end
 use Rattle.host_replay.proofs.end.Symbol as end-def
 use Rattle.host_replay.proofs.end.Symbol.{name as #end}
 use Rattle.host_replay.proofs.end.Met as end-thm
-use Rattle.linguastel_replay.proofs.linguastel_replay_end as f
-use Rattle.linguastel_replay.proofs.linguastel_replay_end.Key.{name as #f}
-use Rattle.linguastel_replay.proofs.linguastel_replay_end.Statement as stated
-use Rattle.linguastel_replay.proofs.linguastel_replay_end.Code as code
+use Rattle.linguastel_replay.proofs.linguastel_unguarded_replay_end as f
+use Rattle.linguastel_replay.proofs.linguastel_unguarded_replay_end.Key.{name as #f}
+use Rattle.linguastel_replay.proofs.linguastel_unguarded_replay_end.Statement as stated
+use Rattle.linguastel_replay.proofs.linguastel_unguarded_replay_end.Code as code
 
-pub linguastel-replay-end-spec : {M : Type 1} → stated.statement M
+pub linguastel-unguarded-replay-end-spec : {M : Type 1} → stated.statement M
 unfolding code.routine tablesOf
-linguastel-replay-end-spec 𝓤 H 𝓜 𝓖 𝓡 =
+linguastel-unguarded-replay-end-spec 𝓤 H 𝓜 𝓖 𝓡 =
     let A = 𝓖 .A in
     let 𝓣 = tables 𝓤 H 𝓜 𝓡 code.env in
     entered 𝓤 H (tripleOf 𝓤 H A f.signature (f.spec 𝓤 H A (𝓜 .mem) (𝓡 .run))) (𝓣 .C) (𝓣 .Λ) #f code.function (code.unfolded 𝓤 H 𝓜 𝓡)
