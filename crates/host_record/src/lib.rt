@@ -39,7 +39,7 @@ pub struct HostRecord {
     pub waiting: Chains,
     pub messages: Chains,
     pub mailboxes: [Mailbox; MAILBOX_CELLS],
-    // Says nothing, and is 0 in every record that is handed back changed.
+    // Says nothing. A call that changes something makes it 0; a table keeps it.
     pub spare: u8,
 }
 
