@@ -1,7 +1,8 @@
 /*
- * Tests the boundary between a host in C and the library: the layout, bad pointers and numbers, records that aren't sound, what calls write, tables
- * of calls, hosts/runs through the header, the recording of calls, and the replay of a recording in blocks. `boundary RUNS TRACES` reads the runs and
- * the stored traces from these folders. The last line is 'N checks, M failed'; the exit status is 1 where one failed.
+ * Tests the boundary between a host in C and the library: the layout, bad pointers and numbers, records that aren't sound, what calls write and that
+ * none of it is left over from the stack, what the header reads and says beside the library, tables of calls, hosts/runs through the header, the
+ * recording of calls, and the replay of a recording in blocks. `boundary RUNS TRACES` reads the runs and the stored traces from these folders. The last
+ * line is 'N checks, M failed'; the exit status is 1 where one failed.
  */
 #define _DEFAULT_SOURCE /* for mmap and sigaction, which C11 alone doesn't have */
 #include <inttypes.h>
@@ -13,7 +14,7 @@
 #include <sys/mman.h>
 #include <unistd.h>
 
-#include "linguastel.h"
+#include "linguastel_print.h"
 
 #define LENGTH(array) (sizeof(array) / sizeof((array)[0]))
 
@@ -40,6 +41,32 @@ static bool same_answer(LinguastelAnswer x, LinguastelAnswer y)
 static void check_refused(LinguastelAnswer answer, int32_t code, const char *what)
 {
     check(same_answer(answer, linguastel_refusal(code)), what);
+}
+
+/* What sets up a record is looked at too. */
+static void must_be_ok(LinguastelAnswer answer)
+{
+    check(linguastel_is_ok(answer), "a call of the set-up is accepted");
+}
+
+static void must_wait(LinguastelAnswer answer)
+{
+    check(linguastel_waits(answer), "a call of the set-up waits");
+}
+
+static void must_be_e_ok(int32_t code)
+{
+    check(code == LINGUASTEL_E_OK, "the set-up");
+}
+
+/* Of a call that may be accepted, wait or be refused: its answer is whole. */
+static void must_be_whole(LinguastelAnswer answer)
+{
+    bool waits = answer.kind == LINGUASTEL_WAITS && answer.code == LINGUASTEL_NO_CODE && answer.place < LINGUASTEL_TASKS;
+    bool finished = answer.kind == LINGUASTEL_FINISHED && answer.code <= LINGUASTEL_E_OK && answer.place == 0;
+    bool words = answer.a != 0 || answer.b != 0 || answer.c != 0;
+    check((waits && !words) || finished, "an answer that waits has code 1, a finished one a code of the kernel");
+    check(linguastel_waits(answer) == waits && (finished || !linguastel_is_ok(answer)), "a wait isn't E_OK");
 }
 
 /* Every byte of a record belongs to a field, so all of them count. */
@@ -81,23 +108,23 @@ static void fill_with_noise(void *memory, size_t size)
 /* Task 1 waits at data queue 1 with an end tick, task 2 at mailbox 1 with none; task 3 is able; queue 2 is full and task 4 waits to send there. */
 static void make_typical(LinguastelRecord *record)
 {
-    linguastel_empty(record);
+    must_be_e_ok(linguastel_empty(record));
     for (uint32_t task = 1; task <= 4; task++) {
-        linguastel_idefine_task(record, task, 10 + task);
+        must_be_ok(linguastel_idefine_task(record, task, 10 + task));
     }
-    linguastel_icre_dtq(record, 1, LINGUASTEL_TA_TFIFO, 2);
-    linguastel_icre_dtq(record, 2, LINGUASTEL_TA_TPRI, 3);
-    linguastel_icre_mbx(record, 1, LINGUASTEL_TA_TPRI, 0);
-    linguastel_icre_mbx(record, 2, LINGUASTEL_TA_MPRI, 9);
+    must_be_ok(linguastel_icre_dtq(record, 1, LINGUASTEL_TA_TFIFO, 2));
+    must_be_ok(linguastel_icre_dtq(record, 2, LINGUASTEL_TA_TPRI, 3));
+    must_be_ok(linguastel_icre_mbx(record, 1, LINGUASTEL_TA_TPRI, 0));
+    must_be_ok(linguastel_icre_mbx(record, 2, LINGUASTEL_TA_MPRI, 9));
     for (uint32_t word = 40; word <= 43; word++) {
-        linguastel_ifsnd_dtq(record, 2, word);
+        must_be_ok(linguastel_ifsnd_dtq(record, 2, word));
     }
-    linguastel_isnd_mbx(record, 2, 64, 9);
-    linguastel_isnd_mbx(record, 2, 33, 8);
-    linguastel_guarded_tick(record);
-    linguastel_trcv_dtq(record, linguastel_as_task(1), 1, 7);
-    linguastel_rcv_mbx(record, linguastel_as_task(2), 1);
-    linguastel_snd_dtq(record, linguastel_as_task(4), 2, 44);
+    must_be_ok(linguastel_isnd_mbx(record, 2, 64, 9));
+    must_be_ok(linguastel_isnd_mbx(record, 2, 33, 8));
+    must_be_ok(linguastel_tick(record));
+    must_wait(linguastel_trcv_dtq(record, linguastel_as_task(1), 1, 7));
+    must_wait(linguastel_rcv_mbx(record, linguastel_as_task(2), 1));
+    must_wait(linguastel_snd_dtq(record, linguastel_as_task(4), 2, 44));
 }
 
 /* ---- Unused fields: document 01 asks nothing of them ---- */
@@ -380,16 +407,17 @@ static void test_neighbours(void)
         uint8_t after[256];
     } memory;
     memset(&memory, 0xA5, sizeof memory);
-    linguastel_empty(&memory.record);
+    must_be_e_ok(linguastel_empty(&memory.record));
     check(linguastel_sound(&memory.record), "the empty record is sound");
     make_typical(&memory.record);
     for (uint32_t number = 0; number <= LINGUASTEL_LAST_CALL + 1; number++) {
-        linguastel_call(&memory.record, (LinguastelCall){ .number = number, .caller = 3, .object = 3, .value = 5, .attribute = 1, .tmout = 0 });
+        LinguastelCall call = { .number = number, .caller = 3, .object = 3, .value = 5, .attribute = 1, .tmout = 0 };
+        must_be_whole(linguastel_call(&memory.record, call));
     }
-    linguastel_tick(&memory.record);
+    must_be_ok(linguastel_tick(&memory.record));
     check(linguastel_sound(&memory.record), "the record is sound after all calls");
     fill_with_noise(&memory.record, sizeof memory.record);
-    linguastel_tick(&memory.record);
+    check_refused(linguastel_tick(&memory.record), LINGUASTEL_E_SYS, "the tick on noise");
     check(all_are(memory.before, sizeof memory.before, 0xA5), "the bytes before the record");
     check(all_are(memory.after, sizeof memory.after, 0xA5), "the bytes after the record");
 }
@@ -408,28 +436,28 @@ static bool leads_to_table(unsigned kind, size_t count)
 }
 
 /* With these pointers and counts. E_SYS comes first, where the record's pointer leads to no sound record. The calls' answers are E_ID. */
-static void check_guarded_table(LinguastelRecord *record, bool sound, unsigned of_calls, size_t call_count, unsigned of_cells, size_t cell_count)
+static void check_table_pointer(LinguastelRecord *record, bool sound, unsigned of_calls, size_t call_count, unsigned of_cells, size_t cell_count)
 {
     Table table = { .calls = { { .number = LINGUASTEL_LOOK }, { .number = LINGUASTEL_LOOK } } };
     fill_with_noise(table.cells, sizeof table.cells);
     Table before = table;
     bool fit = leads_to_table(of_calls, call_count) && leads_to_table(of_cells, cell_count) && call_count <= cell_count;
     int32_t expected = !sound ? LINGUASTEL_E_SYS : fit ? LINGUASTEL_E_OK : LINGUASTEL_E_PAR;
-    int32_t code = linguastel_guarded_table(record, pointer_to(table.calls, of_calls), call_count, pointer_to(table.cells, of_cells), cell_count);
-    check(code == expected, "the code of a guarded table");
+    int32_t code = linguastel_table(record, pointer_to(table.calls, of_calls), call_count, pointer_to(table.cells, of_cells), cell_count);
+    check(code == expected, "the code of a table at these pointers");
     size_t made = expected == LINGUASTEL_E_OK ? call_count : 0;
     for (size_t i = 0; i < made; i++) {
-        check_refused(table.cells[i], LINGUASTEL_E_ID, "the answer in a guarded table");
+        check_refused(table.cells[i], LINGUASTEL_E_ID, "the answer in a table at these pointers");
     }
-    check(same_calls(&table, &before), "the calls of a guarded table");
-    check(same_cells_from(made, &table, &before), "the cells past the calls of a guarded table");
+    check(same_calls(&table, &before), "the calls of a table at these pointers");
+    check(same_cells_from(made, &table, &before), "the cells past the calls of a table at these pointers");
 }
 
-static void check_guarded_tables(LinguastelRecord *record, bool sound)
+static void check_table_pointers(LinguastelRecord *record, bool sound)
 {
     for (unsigned i = 0; i < POINTERS * POINTERS; i++) {
         for (size_t counts = 0; counts < 9; counts++) {
-            check_guarded_table(record, sound, i % POINTERS, counts % 3, i / POINTERS, counts / 3);
+            check_table_pointer(record, sound, i % POINTERS, counts % 3, i / POINTERS, counts / 3);
         }
     }
 }
@@ -439,25 +467,155 @@ static void test_table_pointers(void)
     LinguastelRecord record, unsound;
     make_typical(&record);
     LinguastelRecord before = record;
-    check_guarded_tables(&record, true);
+    check_table_pointers(&record, true);
     check(same_record(&record, &before), "the record");
     fill_with_noise(&unsound, sizeof unsound);
     before = unsound;
-    check_guarded_tables(&unsound, false);
+    check_table_pointers(&unsound, false);
     check(same_record(&unsound, &before), "the record that isn't sound");
+}
+
+/* ---- Groups: every function that is given a record, with a pointer that leads to none ---- */
+
+/* The code of an answer without place and words; a number that no code has where it isn't such an answer. */
+enum { NO_REFUSAL = 2 };
+
+static int64_t refused_with(LinguastelAnswer answer)
+{
+    return same_answer(answer, linguastel_refusal(answer.code)) ? answer.code : NO_REFUSAL;
+}
+
+#define BY_NUMBER(call_number) linguastel_call(pointer, (LinguastelCall){ .number = (call_number) })
+#define BY_TASK linguastel_as_task(3)
+
+/* Name, what is asked, and whether it is an answer or code (SYS), an answer refused in step 0 (PAR), or yes or no, a mask or a number (NONE). */
+#define ASKED(ASK) \
+    ASK(empty, linguastel_empty(pointer), SYS) \
+    ASK(call_0, refused_with(BY_NUMBER(LINGUASTEL_TICK)), SYS) \
+    ASK(call_23, refused_with(BY_NUMBER(LINGUASTEL_LAST_CALL)), SYS) \
+    ASK(call_24, refused_with(BY_NUMBER(LINGUASTEL_LAST_CALL + 1)), PAR) \
+    ASK(call_4294967295, refused_with(BY_NUMBER(UINT32_MAX)), PAR) \
+    ASK(tick, refused_with(linguastel_tick(pointer)), SYS) \
+    ASK(look_only, refused_with(linguastel_look_only(pointer, 3)), SYS) \
+    ASK(make_call, refused_with(linguastel_make_call(pointer, BY_TASK, LINGUASTEL_LOOK, 3, 0, 0, 0)), SYS) \
+    ASK(define_task, refused_with(linguastel_define_task(pointer, BY_TASK, 9, 5)), SYS) \
+    ASK(cre_dtq, refused_with(linguastel_cre_dtq(pointer, BY_TASK, 9, 0, 5)), SYS) \
+    ASK(del_dtq, refused_with(linguastel_del_dtq(pointer, BY_TASK, 1)), SYS) \
+    ASK(snd_dtq, refused_with(linguastel_snd_dtq(pointer, BY_TASK, 1, 10)), SYS) \
+    ASK(psnd_dtq, refused_with(linguastel_psnd_dtq(pointer, BY_TASK, 1, 10)), SYS) \
+    ASK(tsnd_dtq, refused_with(linguastel_tsnd_dtq(pointer, BY_TASK, 1, 10, 5)), SYS) \
+    ASK(fsnd_dtq, refused_with(linguastel_fsnd_dtq(pointer, BY_TASK, 1, 10)), SYS) \
+    ASK(rcv_dtq, refused_with(linguastel_rcv_dtq(pointer, BY_TASK, 2)), SYS) \
+    ASK(prcv_dtq, refused_with(linguastel_prcv_dtq(pointer, BY_TASK, 2)), SYS) \
+    ASK(trcv_dtq, refused_with(linguastel_trcv_dtq(pointer, BY_TASK, 2, 5)), SYS) \
+    ASK(ref_dtq, refused_with(linguastel_ref_dtq(pointer, BY_TASK, 1)), SYS) \
+    ASK(cre_mbx, refused_with(linguastel_cre_mbx(pointer, BY_TASK, 9, 0, 0)), SYS) \
+    ASK(del_mbx, refused_with(linguastel_del_mbx(pointer, BY_TASK, 1)), SYS) \
+    ASK(snd_mbx, refused_with(linguastel_snd_mbx(pointer, BY_TASK, 1, 5, 1)), SYS) \
+    ASK(rcv_mbx, refused_with(linguastel_rcv_mbx(pointer, BY_TASK, 2)), SYS) \
+    ASK(prcv_mbx, refused_with(linguastel_prcv_mbx(pointer, BY_TASK, 2)), SYS) \
+    ASK(trcv_mbx, refused_with(linguastel_trcv_mbx(pointer, BY_TASK, 2, 5)), SYS) \
+    ASK(ref_mbx, refused_with(linguastel_ref_mbx(pointer, BY_TASK, 1)), SYS) \
+    ASK(rel_wai, refused_with(linguastel_rel_wai(pointer, BY_TASK, 1)), SYS) \
+    ASK(sus_tsk, refused_with(linguastel_sus_tsk(pointer, BY_TASK, 1)), SYS) \
+    ASK(rsm_tsk, refused_with(linguastel_rsm_tsk(pointer, BY_TASK, 1)), SYS) \
+    ASK(look, refused_with(linguastel_look(pointer, BY_TASK, 1)), SYS) \
+    ASK(fetch, refused_with(linguastel_fetch(pointer, BY_TASK, 3)), SYS) \
+    ASK(idefine_task, refused_with(linguastel_idefine_task(pointer, 9, 5)), SYS) \
+    ASK(icre_dtq, refused_with(linguastel_icre_dtq(pointer, 9, 0, 5)), SYS) \
+    ASK(ipsnd_dtq, refused_with(linguastel_ipsnd_dtq(pointer, 1, 10)), SYS) \
+    ASK(ifsnd_dtq, refused_with(linguastel_ifsnd_dtq(pointer, 1, 10)), SYS) \
+    ASK(iprcv_dtq, refused_with(linguastel_iprcv_dtq(pointer, 2)), SYS) \
+    ASK(iref_dtq, refused_with(linguastel_iref_dtq(pointer, 1)), SYS) \
+    ASK(icre_mbx, refused_with(linguastel_icre_mbx(pointer, 9, 0, 0)), SYS) \
+    ASK(isnd_mbx, refused_with(linguastel_isnd_mbx(pointer, 1, 5, 1)), SYS) \
+    ASK(iprcv_mbx, refused_with(linguastel_iprcv_mbx(pointer, 2)), SYS) \
+    ASK(iref_mbx, refused_with(linguastel_iref_mbx(pointer, 1)), SYS) \
+    ASK(irel_wai, refused_with(linguastel_irel_wai(pointer, 1)), SYS) \
+    ASK(isus_tsk, refused_with(linguastel_isus_tsk(pointer, 1)), SYS) \
+    ASK(irsm_tsk, refused_with(linguastel_irsm_tsk(pointer, 1)), SYS) \
+    ASK(ilook, refused_with(linguastel_ilook(pointer, 1)), SYS) \
+    ASK(ifetch, refused_with(linguastel_ifetch(pointer, 3)), SYS) \
+    ASK(table, linguastel_table(pointer, NULL, 0, NULL, 0), SYS) \
+    ASK(pointer_fits, linguastel_pointer_fits(pointer), NONE) \
+    ASK(sound, linguastel_sound(pointer), NONE) \
+    ASK(waiting, linguastel_waiting(pointer), NONE) \
+    ASK(runnable, linguastel_runnable(pointer), NONE) \
+    ASK(first_sender, linguastel_first_sender(pointer, 2), NONE) \
+    ASK(first_receiver, linguastel_first_receiver(pointer, 1), NONE) \
+    ASK(first_waiter, linguastel_first_waiter(pointer, 1), NONE) \
+    ASK(next_task, linguastel_next_task(pointer, 5), NONE) \
+    ASK(first_message, linguastel_first_message(pointer, 2), NONE) \
+    ASK(next_message, linguastel_next_message(pointer, 33), NONE) \
+    ASK(word_count, linguastel_word_count(pointer, 2), NONE) \
+    ASK(word, linguastel_word(pointer, 2, 0), NONE)
+
+typedef enum { SYS = LINGUASTEL_E_SYS, PAR = LINGUASTEL_E_PAR, NONE = 0 } Refusal;
+
+#define ASK_FUNCTION(name, asked, refusal) \
+    static int64_t ask_##name(LinguastelRecord *pointer) \
+    { \
+        return (asked); \
+    }
+ASKED(ASK_FUNCTION)
+#undef ASK_FUNCTION
+
+#define ASK_ROW(name, asked, refusal) { #name, ask_##name, refusal },
+static const struct {
+    const char *what;
+    int64_t (*ask)(LinguastelRecord *pointer);
+    Refusal refusal;
+} asked_of_pointers[] = { ASKED(ASK_ROW) };
+#undef ASK_ROW
+#undef ASKED
+#undef BY_NUMBER
+#undef BY_TASK
+
+/* What linguastel_print writes of a record. */
+static void check_prints(const LinguastelRecord *record, const char *expected)
+{
+    char text[64] = "";
+    FILE *file = tmpfile();
+    check(file != NULL, "a file to print into");
+    if (file == NULL) {
+        return;
+    }
+    linguastel_print(file, record);
+    rewind(file);
+    size_t size = fread(text, 1, sizeof text - 1, file);
+    check(size == strlen(expected) && strcmp(text, expected) == 0, "what is printed of a record");
+    fclose(file);
 }
 
 static void check_no_record(LinguastelRecord *pointer)
 {
-    check_refused(linguastel_guarded_call(pointer, (LinguastelCall){ .number = LINGUASTEL_TICK }), LINGUASTEL_E_SYS, "number 0");
-    check_refused(linguastel_guarded_call(pointer, (LinguastelCall){ .number = LINGUASTEL_LAST_CALL }), LINGUASTEL_E_SYS, "number 23");
-    check_refused(linguastel_guarded_call(pointer, (LinguastelCall){ .number = LINGUASTEL_LAST_CALL + 1 }), LINGUASTEL_E_PAR, "number 24");
-    check_refused(linguastel_guarded_tick(pointer), LINGUASTEL_E_SYS, "the tick");
-    check_refused(linguastel_snd_dtq(pointer, linguastel_as_task(1), 1, 10), LINGUASTEL_E_SYS, "a call by name");
-    check_refused(linguastel_iref_mbx(pointer, 1), LINGUASTEL_E_SYS, "an i-form");
-    check(!linguastel_guarded_empty(pointer), "empty");
-    check(!linguastel_guarded_sound(pointer), "sound");
-    check_guarded_tables(pointer, false);
+    for (size_t i = 0; i < LENGTH(asked_of_pointers); i++) {
+        check(asked_of_pointers[i].ask(pointer) == asked_of_pointers[i].refusal, asked_of_pointers[i].what);
+    }
+    check_table_pointers(pointer, false);
+    linguastel_print(NULL, pointer);
+}
+
+/* Behind the right pointer most of what is asked has another answer, so that the rows above say something. */
+static void check_asked_of_record(const LinguastelRecord *content)
+{
+    size_t alike = 0;
+    for (size_t i = 0; i < LENGTH(asked_of_pointers); i++) {
+        LinguastelRecord record = *content;
+        alike += asked_of_pointers[i].ask(&record) == asked_of_pointers[i].refusal;
+    }
+    check(alike == 2, "numbers 24 and 4294967295 alone are answered alike with a record");
+}
+
+/* The typical record, with task 5 waiting to send before task 4 and task 6 behind it. */
+static void make_pointed_at(LinguastelRecord *record)
+{
+    make_typical(record);
+    must_be_ok(linguastel_idefine_task(record, 5, 1));
+    must_be_ok(linguastel_idefine_task(record, 6, 16));
+    must_wait(linguastel_snd_dtq(record, linguastel_as_task(5), 2, 45));
+    must_wait(linguastel_snd_dtq(record, linguastel_as_task(6), 2, 46));
+    must_be_ok(linguastel_isus_tsk(record, 6));
 }
 
 /* Behind a misaligned pointer stands a sound record, so that nothing but the pointer is wrong. */
@@ -466,12 +624,18 @@ static void test_pointers(void)
     static _Alignas(LinguastelRecord) uint8_t memory[LINGUASTEL_RECORD_SIZE + LINGUASTEL_RECORD_ALIGN];
     static uint8_t before[sizeof memory];
     LinguastelRecord record;
-    make_typical(&record);
+    make_pointed_at(&record);
+    check_asked_of_record(&record);
     check_no_record(NULL);
+    check(linguastel_sys_cause(NULL, 0) == LINGUASTEL_CAUSE_NULL, "the cause of null");
+    check_prints(NULL, "null\n");
     for (size_t offset = 1; offset < LINGUASTEL_RECORD_ALIGN; offset++) {
+        LinguastelRecord *pointer = (LinguastelRecord *)(void *)(memory + offset);
         memcpy(memory + offset, &record, sizeof record);
         memcpy(before, memory, sizeof memory);
-        check_no_record((LinguastelRecord *)(void *)(memory + offset));
+        check_no_record(pointer);
+        check(linguastel_sys_cause(pointer, 0) == LINGUASTEL_CAUSE_MISALIGNED, "the cause of a misaligned pointer");
+        check_prints(pointer, "misaligned\n");
         check(memcmp(memory, before, sizeof memory) == 0, "no memory is touched");
     }
 }
@@ -632,17 +796,17 @@ static void test_damaged_flags(void)
 static void make_various(LinguastelRecord *record)
 {
     make_typical(record);
-    linguastel_icre_dtq(record, 3, LINGUASTEL_TA_TFIFO, 0);
-    linguastel_icre_dtq(record, 4, LINGUASTEL_TA_TFIFO, 1);
-    linguastel_isus_tsk(record, 2);
+    must_be_ok(linguastel_icre_dtq(record, 3, LINGUASTEL_TA_TFIFO, 0));
+    must_be_ok(linguastel_icre_dtq(record, 4, LINGUASTEL_TA_TFIFO, 1));
+    must_be_ok(linguastel_isus_tsk(record, 2));
     for (uint32_t task = 5; task <= 7; task++) {
-        linguastel_idefine_task(record, task, 1);
-        linguastel_trcv_dtq(record, linguastel_as_task(task), 4, task == 6 ? 1 : LINGUASTEL_FOREVER);
+        must_be_ok(linguastel_idefine_task(record, task, 1));
+        must_wait(linguastel_trcv_dtq(record, linguastel_as_task(task), 4, task == 6 ? 1 : LINGUASTEL_TMO_FEVR));
     }
-    linguastel_irel_wai(record, 5);
-    linguastel_guarded_tick(record);
-    linguastel_guarded_tick(record);
-    linguastel_del_dtq(record, linguastel_as_task(3), 4);
+    must_be_ok(linguastel_irel_wai(record, 5));
+    must_be_ok(linguastel_tick(record));
+    must_be_ok(linguastel_tick(record));
+    must_be_ok(linguastel_del_dtq(record, linguastel_as_task(3), 4));
 }
 
 typedef struct {
@@ -704,17 +868,6 @@ static void test_writes_nothing(void)
     check(is_caught(make_single, &tick), "a call that writes is caught");
 }
 
-/* Leaves this number all over the stack below the caller, where the next call has its locals; a call uses less than half of that. */
-static __attribute__((noinline)) void paint_stack(uint64_t number)
-{
-    volatile uint64_t below[8192];
-    for (size_t i = 0; i < LENGTH(below); i++) {
-        below[i] = number;
-    }
-}
-
-static const uint64_t paints[] = { 0x1111111111111111, 0xeeeeeeeeeeeeeeee };
-
 /* Few tasks, objects and messages, so that they meet. */
 static LinguastelCall random_call(void)
 {
@@ -727,17 +880,178 @@ static LinguastelCall random_call(void)
     return call;
 }
 
+/* ---- Groups: bytes of the stack ---- */
+
+/* Leaves this byte all over the stack below the caller, where the next call has its locals; a call, a table and a block use less than half of that. */
+enum { PAINTED = 65536 };
+
+static __attribute__((noinline)) void paint_stack(uint8_t byte)
+{
+    volatile uint8_t below[PAINTED];
+    for (size_t i = 0; i < LENGTH(below); i++) {
+        below[i] = byte;
+    }
+}
+
+/* Neither byte stands in the records, calls and blocks of these tests. */
+static const uint8_t paints[] = { 0xa5, 0x5a };
+
+/* Whether that byte stands there: below the frame of a function that is called now. */
+static __attribute__((noinline)) bool is_painted(uint8_t byte)
+{
+    const volatile uint8_t *frame = __builtin_frame_address(0);
+    bool painted = true;
+    for (size_t depth = 1024; depth <= PAINTED / 2; depth++) {
+        painted = painted && *(frame - depth) == byte;
+    }
+    return painted;
+}
+
+static void test_paint(void)
+{
+    for (size_t i = 0; i < LENGTH(paints); i++) {
+        paint_stack(paints[i]);
+        check(is_painted(paints[i]), "the stack is painted where a call has its locals");
+        check(!is_painted((uint8_t)~paints[i]), "and with no other byte");
+    }
+}
+
+static bool has_paint(const void *memory, size_t size)
+{
+    const uint8_t *bytes = memory;
+    return memchr(bytes, paints[0], size) != NULL || memchr(bytes, paints[1], size) != NULL;
+}
+
+/* On the record of make_various, a call of each number that is accepted or waits, and of some numbers more than one. */
+static const LinguastelCall not_refused[] = {
+    { .number = LINGUASTEL_TICK },
+    { .number = LINGUASTEL_DEFINE_TASK, .object = 8, .value = 5 },
+    { .number = LINGUASTEL_CRE_DTQ, .object = 5, .value = 4, .attribute = LINGUASTEL_TA_TPRI },
+    { .number = LINGUASTEL_DEL_DTQ, .caller = 3, .object = 2 },
+    { .number = LINGUASTEL_SND_DTQ, .caller = 3, .object = 1, .value = 77 },
+    { .number = LINGUASTEL_SND_DTQ, .caller = 3, .object = 3, .value = 77 },
+    { .number = LINGUASTEL_PSND_DTQ, .object = 1, .value = 77 },
+    { .number = LINGUASTEL_TSND_DTQ, .caller = 3, .object = 3, .value = 77, .tmout = 4 },
+    { .number = LINGUASTEL_FSND_DTQ, .object = 2, .value = 77 },
+    { .number = LINGUASTEL_RCV_DTQ, .caller = 3, .object = 2 },
+    { .number = LINGUASTEL_RCV_DTQ, .caller = 3, .object = 3 },
+    { .number = LINGUASTEL_PRCV_DTQ, .object = 2 },
+    { .number = LINGUASTEL_TRCV_DTQ, .caller = 3, .object = 3, .tmout = 4 },
+    { .number = LINGUASTEL_REF_DTQ, .object = 2 },
+    { .number = LINGUASTEL_CRE_MBX, .object = 3, .value = 4, .attribute = LINGUASTEL_TA_MPRI },
+    { .number = LINGUASTEL_DEL_MBX, .caller = 3, .object = 1 },
+    { .number = LINGUASTEL_SND_MBX, .object = 1, .value = 6 },
+    { .number = LINGUASTEL_SND_MBX, .object = 2, .value = 6, .attribute = 1 },
+    { .number = LINGUASTEL_RCV_MBX, .caller = 3, .object = 2 },
+    { .number = LINGUASTEL_RCV_MBX, .caller = 3, .object = 1 },
+    { .number = LINGUASTEL_PRCV_MBX, .object = 2 },
+    { .number = LINGUASTEL_TRCV_MBX, .caller = 3, .object = 1, .tmout = 4 },
+    { .number = LINGUASTEL_REF_MBX, .object = 2 },
+    { .number = LINGUASTEL_REL_WAI, .object = 1 },
+    { .number = LINGUASTEL_SUS_TSK, .object = 3 },
+    { .number = LINGUASTEL_RSM_TSK, .object = 2 },
+    { .number = LINGUASTEL_LOOK, .object = 1 },
+    { .number = LINGUASTEL_FETCH, .object = 5 },
+};
+
+/* The call with either paint: the same answer and the same record, byte for byte, and no byte of paint in them. */
+static LinguastelAnswer check_call_on_paint(const LinguastelRecord *content, LinguastelCall call, const char *what)
+{
+    LinguastelRecord record = *content, twin = *content;
+    paint_stack(paints[0]);
+    LinguastelAnswer answer = linguastel_call(&record, call);
+    paint_stack(paints[1]);
+    LinguastelAnswer again = linguastel_call(&twin, call);
+    check(same_answer(answer, again), what);
+    check(same_record(&record, &twin), what);
+    check(!has_paint(&record, sizeof record) && !has_paint(&answer, sizeof answer), what);
+    return answer;
+}
+
+static void test_calls_on_paint(void)
+{
+    LinguastelRecord various;
+    bool seen[LINGUASTEL_LAST_CALL + 1] = { false };
+    make_various(&various);
+    check(!has_paint(&various, sizeof various), "the record before the calls");
+    for (size_t i = 0; i < LENGTH(not_refused); i++) {
+        LinguastelAnswer answer = check_call_on_paint(&various, not_refused[i], linguastel_call_name(not_refused[i].number));
+        bool reports = not_refused[i].number == LINGUASTEL_FETCH;
+        check(linguastel_is_ok(answer) || linguastel_waits(answer) || reports, linguastel_call_name(not_refused[i].number));
+        seen[not_refused[i].number] = true;
+    }
+    check(memchr(seen, false, sizeof seen) == NULL, "a call of each number");
+    for (size_t i = 0; i < LENGTH(refused); i++) {
+        check_refused(check_call_on_paint(&various, refused[i].call, refused[i].what), refused[i].code, refused[i].what);
+    }
+    various.counter = various.tasks[1].end - 1;
+    check(check_call_on_paint(&various, not_refused[0], "a tick that ends a wait").a == 1, "a tick that ends a wait");
+    memset(&various, 0xff, sizeof various);
+    check_refused(check_call_on_paint(&various, not_refused[0], "not sound"), LINGUASTEL_E_SYS, "a record that isn't sound");
+}
+
+/* All calls of the two lists in one table, the cells being painted too before it. */
+static void test_table_on_paint(void)
+{
+    LinguastelRecord records[LENGTH(paints)];
+    Table tables[LENGTH(paints)];
+    for (size_t i = 0; i < LENGTH(paints); i++) {
+        Table *table = &tables[i];
+        table->call_count = LENGTH(not_refused) + LENGTH(refused);
+        table->cell_count = table->call_count;
+        memset(table->calls, 0, sizeof table->calls);
+        memset(table->cells, paints[i], sizeof table->cells);
+        memcpy(table->calls, not_refused, sizeof not_refused);
+        for (size_t k = 0; k < LENGTH(refused); k++) {
+            table->calls[LENGTH(not_refused) + k] = refused[k].call;
+        }
+        make_various(&records[i]);
+        paint_stack(paints[i]);
+        check(linguastel_table(&records[i], table->calls, table->call_count, table->cells, table->cell_count) == LINGUASTEL_E_OK, "the table");
+    }
+    check(same_record(&records[0], &records[1]), "the record after the table");
+    check(!has_paint(&records[0], sizeof records[0]), "a byte of the record comes from the stack");
+    size_t size = tables[0].call_count * sizeof tables[0].cells[0];
+    check(memcmp(tables[0].cells, tables[1].cells, size) == 0, "the answers");
+    check(!has_paint(tables[0].cells, size), "a byte of an answer comes from the stack or from the cell");
+}
+
+static void empty_on_paint(LinguastelRecord *record, uint8_t byte)
+{
+    memset(record, byte, sizeof *record);
+    paint_stack(byte);
+    must_be_e_ok(linguastel_empty(record));
+}
+
+/* The same calls on two records from memory of either paint. Their numbers are small, and the counter stays so: a byte of paint would show. */
+static void test_records_on_paint(void)
+{
+    LinguastelRecord record = { .counter = UINT32_MAX }, twin;
+    unsigned records = 0;
+    for (unsigned i = 0; i < 5000; i++) {
+        if (record.counter > 64) {
+            empty_on_paint(&record, paints[0]);
+            empty_on_paint(&twin, paints[1]);
+            check(same_record(&record, &twin), "the empty record");
+            records++;
+        }
+        LinguastelCall call = random_call();
+        paint_stack(paints[0]);
+        LinguastelAnswer answer = linguastel_call(&record, call);
+        paint_stack(paints[1]);
+        check(same_answer(linguastel_call(&twin, call), answer), "the answer");
+        check(same_record(&record, &twin) && !has_paint(&record, sizeof record), "a byte comes from the stack");
+    }
+    check(records > 1, "several records");
+}
+
 /* The same calls on two records, with other bytes on the stack: what a call leaves in a record doesn't come from there. */
 static void test_stack(void)
 {
     unsigned accepted[LINGUASTEL_LAST_CALL + 1] = { 0 };
     LinguastelRecord record, twin;
-    memset(&record, 0x11, sizeof record);
-    memset(&twin, 0xee, sizeof twin);
-    paint_stack(paints[0]);
-    linguastel_empty(&record);
-    paint_stack(paints[1]);
-    linguastel_empty(&twin);
+    empty_on_paint(&record, paints[0]);
+    empty_on_paint(&twin, paints[1]);
     check(same_record(&record, &twin), "the empty record");
     for (unsigned i = 0; i < 20000; i++) {
         if (i % 8 == 0) {
@@ -750,12 +1064,140 @@ static void test_stack(void)
         paint_stack(paints[1]);
         check(same_answer(linguastel_call(&twin, call), answer), "the answer");
         check(same_record(&record, &twin), "a byte comes from the stack");
-        accepted[call.number] += answer.code == LINGUASTEL_E_OK;
+        accepted[call.number] += linguastel_is_ok(answer);
     }
     for (size_t number = 0; number < LENGTH(accepted); number++) {
         check(accepted[number] > 0, "a call of each number is accepted");
     }
     check(linguastel_sound(&record), "the record is sound after all calls");
+}
+
+/* ---- Masks, causes and iterators against the answers of calls ---- */
+
+/* Masks and causes against look, for all tasks; the links of tasks that don't wait may be noise. */
+static void check_masks(LinguastelRecord *record)
+{
+    uint32_t waiting = 0, runnable = 0;
+    for (uint32_t task = 1; task <= LINGUASTEL_TASKS; task++) {
+        LinguastelAnswer look = linguastel_ilook(record, task);
+        LinguastelLooked looked = linguastel_looked(look);
+        uint32_t bit = (uint32_t)1 << (task - 1);
+        bool able = linguastel_is_ok(look) && looked.tskwait == LINGUASTEL_NO_WAIT && !looked.suspended;
+        waiting |= looked.tskwait != LINGUASTEL_NO_WAIT ? bit : 0;
+        runnable |= able ? bit : 0;
+        LinguastelAnswer by_task = linguastel_look(record, linguastel_as_task(task), 1);
+        check((linguastel_sys_cause(record, task) == LINGUASTEL_CAUSE_NONE) == (by_task.code != LINGUASTEL_E_SYS), "E_SYS has a cause");
+        check(able == (by_task.code != LINGUASTEL_E_SYS), "a task that can run can call");
+        check(looked.tskwait != LINGUASTEL_NO_WAIT || linguastel_next_task(record, task) == 0, "behind a task that doesn't wait is nobody");
+    }
+    check(linguastel_waiting(record) == waiting, "the tasks that wait are those that look says");
+    check(linguastel_runnable(record) == runnable, "the tasks that can run are those that look says");
+}
+
+/* Receives until nothing is left: the stored words come first, then those of the senders, which are woken one by one. */
+static void check_words(const LinguastelRecord *record, uint32_t queue)
+{
+    LinguastelRecord drained = *record;
+    uint32_t count = linguastel_word_count(record, queue);
+    for (uint32_t place = 0; place < count; place++) {
+        LinguastelAnswer answer = linguastel_iprcv_dtq(&drained, queue);
+        check(linguastel_is_ok(answer) && answer.a == linguastel_word(record, queue, place), "a stored word is the next that is received");
+    }
+    check(linguastel_word(record, queue, count) == 0, "no word behind the last");
+    drained = *record;
+    uint32_t woken = 0;
+    for (uint32_t task = linguastel_first_sender(record, queue); task != 0; task = linguastel_next_task(record, task)) {
+        check(linguastel_iref_dtq(&drained, queue).a == task, "the senders in their order");
+        check(linguastel_is_ok(linguastel_iprcv_dtq(&drained, queue)), "a receive");
+        woken |= linguastel_task_bit(task);
+        check(linguastel_waiting(&drained) == (linguastel_waiting(record) & ~woken), "a receive wakes the first sender");
+    }
+    check(linguastel_iref_dtq(&drained, queue).a == LINGUASTEL_TSK_NONE, "no sender behind the last");
+}
+
+/* Sends a word to each receiver. */
+static void check_receivers(const LinguastelRecord *record, uint32_t queue)
+{
+    LinguastelRecord served = *record;
+    uint32_t word = 1000;
+    for (uint32_t task = linguastel_first_receiver(record, queue); task != 0; task = linguastel_next_task(record, task)) {
+        check(linguastel_is_ok(linguastel_ipsnd_dtq(&served, queue, word)), "a send");
+        LinguastelAnswer fetched = linguastel_ifetch(&served, task);
+        check(linguastel_is_ok(fetched) && fetched.a == word++, "the receivers in their order");
+    }
+    check(linguastel_iref_dtq(&served, queue).b == LINGUASTEL_TSK_NONE, "no receiver behind the last");
+}
+
+/* A message that is queued nowhere, or 0. */
+static uint32_t free_message(const LinguastelRecord *record)
+{
+    bool queued[LINGUASTEL_MESSAGES + 1] = { true };
+    for (uint32_t mailbox = 1; mailbox <= LINGUASTEL_MAILBOXES; mailbox++) {
+        for (uint32_t message = linguastel_first_message(record, mailbox); message != 0; message = linguastel_next_message(record, message)) {
+            queued[message] = true;
+        }
+    }
+    uint32_t message = LINGUASTEL_MESSAGES;
+    while (queued[message] && message > 0) {
+        message--;
+    }
+    return message;
+}
+
+/* Receives every message, and sends one to each waiter. */
+static void check_mailbox(const LinguastelRecord *record, uint32_t mailbox)
+{
+    LinguastelRecord drained = *record, served = *record;
+    for (uint32_t message = linguastel_first_message(record, mailbox); message != 0; message = linguastel_next_message(record, message)) {
+        LinguastelAnswer answer = linguastel_iprcv_mbx(&drained, mailbox);
+        check(linguastel_is_ok(answer) && answer.a == message, "a queued message is the next that is received");
+    }
+    check(linguastel_iref_mbx(&drained, mailbox).b == 0, "no message behind the last");
+    uint32_t message = free_message(record);
+    for (uint32_t task = linguastel_first_waiter(record, mailbox); task != 0 && message != 0; task = linguastel_next_task(record, task)) {
+        check(linguastel_is_ok(linguastel_isnd_mbx(&served, mailbox, message, 1)), "a message is sent");
+        LinguastelAnswer fetched = linguastel_ifetch(&served, task);
+        check(linguastel_is_ok(fetched) && fetched.a == message, "the waiters in their order");
+    }
+    check(message == 0 || linguastel_iref_mbx(&served, mailbox).a == LINGUASTEL_TSK_NONE, "no waiter behind the last");
+}
+
+/* Every task that waits stands in one wait queue. Gives those of a wait queue from this task on. */
+static uint32_t tasks_from(const LinguastelRecord *record, uint32_t first)
+{
+    uint32_t tasks = 0;
+    for (uint32_t task = first; task != 0; task = linguastel_next_task(record, task)) {
+        check((tasks & linguastel_task_bit(task)) == 0, "a task waits once");
+        tasks |= linguastel_task_bit(task);
+    }
+    return tasks;
+}
+
+/* The first of each and the counts against ref_dtq and ref_mbx, the rest against what receives and sends give. The record keeps every byte. */
+static void check_views(LinguastelRecord *record)
+{
+    LinguastelRecord before = *record;
+    uint32_t waiting = 0;
+    check_masks(record);
+    for (uint32_t object = 1; object <= LINGUASTEL_QUEUES; object++) {
+        LinguastelRdtq rdtq = linguastel_rdtq(linguastel_iref_dtq(record, object));
+        LinguastelRmbx rmbx = linguastel_rmbx(linguastel_iref_mbx(record, object));
+        check(linguastel_first_sender(record, object) == rdtq.stskid, "the first sender");
+        check(linguastel_first_receiver(record, object) == rdtq.rtskid, "the first receiver");
+        check(linguastel_word_count(record, object) == rdtq.sdtqcnt, "the number of words");
+        check(linguastel_first_waiter(record, object) == rmbx.wtskid, "the first waiter");
+        check(linguastel_first_message(record, object) == rmbx.pk_msg, "the first message");
+        waiting |= tasks_from(record, rdtq.stskid) | tasks_from(record, rdtq.rtskid) | tasks_from(record, rmbx.wtskid);
+        if (record->queues[object].defined != 0) {
+            check_words(record, object);
+            check_receivers(record, object);
+        }
+        if (record->mailboxes[object].defined != 0) {
+            check_mailbox(record, object);
+        }
+    }
+    check(waiting == linguastel_waiting(record), "every task that waits is in a wait queue");
+    check(same_record(record, &before), "reading leaves every byte");
 }
 
 /* ---- Groups: the record as C sees it ---- */
@@ -795,8 +1237,8 @@ static void test_view(void)
 {
     LinguastelRecord record;
     make_typical(&record);
-    linguastel_isus_tsk(&record, 2);
-    linguastel_irel_wai(&record, 2);
+    must_be_ok(linguastel_isus_tsk(&record, 2));
+    must_be_ok(linguastel_irel_wai(&record, 2));
     for (uint32_t number = 1; number <= 4; number++) {
         check_task_view(&record, number);
         check(record.waiting.key[number] == 10 + number, "a task's priority");
@@ -820,18 +1262,18 @@ static void test_view(void)
 /* Task 1 waits from this counter with this tmout. */
 static void make_waiting(LinguastelRecord *record, uint32_t counter, int32_t tmout)
 {
-    linguastel_empty(record);
+    must_be_e_ok(linguastel_empty(record));
     record->counter = counter;
-    linguastel_idefine_task(record, 1, 5);
-    linguastel_icre_dtq(record, 1, LINGUASTEL_TA_TFIFO, 0);
-    check(linguastel_trcv_dtq(record, linguastel_as_task(1), 1, tmout).kind == LINGUASTEL_WAITS, "a wait with a tmout");
+    must_be_ok(linguastel_idefine_task(record, 1, 5));
+    must_be_ok(linguastel_icre_dtq(record, 1, LINGUASTEL_TA_TFIFO, 0));
+    check(linguastel_trcv_dtq(record, linguastel_as_task(1), 1, tmout).code == LINGUASTEL_NO_CODE, "a wait with a tmout");
 }
 
 /* The next tick ends so many waits. */
 static void check_tick(LinguastelRecord *record, uint32_t ended, const char *what)
 {
     LinguastelAnswer expected = { .a = ended };
-    check(same_answer(linguastel_guarded_tick(record), expected), what);
+    check(same_answer(linguastel_tick(record), expected), what);
 }
 
 /* A wait with tmout n ends in tick n + 1; the counter comes to 0 meanwhile. */
@@ -847,9 +1289,9 @@ static void test_time_outs(void)
         check(linguastel_ifetch(&record, 1).code == LINGUASTEL_E_TMOUT, "the code of a time-out");
     }
     make_waiting(&record, 5, LINGUASTEL_LONGEST_TMOUT);
-    check(linguastel_guarded_sound(&record), "the longest tmout");
+    check(linguastel_sound(&record), "the longest tmout");
     record.counter--;
-    check(!linguastel_guarded_sound(&record), "an end tick farther than the longest tmout's");
+    check(!linguastel_sound(&record), "an end tick farther than the longest tmout's");
     record.counter += (uint32_t)LINGUASTEL_LONGEST_TMOUT;
     check_tick(&record, 0, "the last tick but one of the longest tmout");
     check_tick(&record, 1, "the last tick of the longest tmout");
@@ -860,8 +1302,8 @@ static void test_time_outs(void)
 /* Messages 1, 2, ... to a mailbox in order of arrival: the answers are a 0, a 1, and so on. */
 static void make_sends(LinguastelRecord *record, Table *table)
 {
-    linguastel_empty(record);
-    linguastel_icre_mbx(record, 3, LINGUASTEL_TA_TFIFO, 0);
+    must_be_e_ok(linguastel_empty(record));
+    must_be_ok(linguastel_icre_mbx(record, 3, LINGUASTEL_TA_TFIFO, 0));
     for (uint32_t i = 0; i < MOST_CALLS; i++) {
         table->calls[i] = (LinguastelCall){ .number = LINGUASTEL_SND_MBX, .object = 3, .value = i + 1 };
     }
@@ -1024,7 +1466,7 @@ static void test_table_with_wait(void)
     table.calls[1] = (LinguastelCall){ .number = LINGUASTEL_REF_DTQ, .caller = 3, .object = 3 };
     table.calls[2] = (LinguastelCall){ .number = LINGUASTEL_REF_DTQ, .object = 3 };
     check_table_made(&record, &table, "a wait in a table");
-    check(same_answer(table.cells[0], (LinguastelAnswer){ .kind = LINGUASTEL_WAITS }), "the wait");
+    check(same_answer(table.cells[0], (LinguastelAnswer){ .kind = LINGUASTEL_WAITS, .code = LINGUASTEL_NO_CODE }), "the wait");
     check_refused(table.cells[1], LINGUASTEL_E_SYS, "a call by the task that waits");
     check(same_answer(table.cells[2], (LinguastelAnswer){ .b = 3 }), "a call by a handler");
 }
@@ -1081,16 +1523,16 @@ static void test_random_tables(void)
     Table table = { .call_count = 0 };
     for (unsigned i = 0; i < 3000; i++) {
         if (i < 1000 || i % 100 == 0) {
-            linguastel_empty(&record);
+            must_be_e_ok(linguastel_empty(&record));
         }
         make_random_table(&table);
         paint_stack(paints[i % 2]);
         check_table_made(&record, &table, "a random table");
-        linguastel_tick(&record);
+        must_be_ok(linguastel_tick(&record));
         for (size_t c = 0; c < table.call_count; c++) {
-            waits += table.cells[c].kind == LINGUASTEL_WAITS;
+            waits += linguastel_waits(table.cells[c]);
             if (table.calls[c].number <= LINGUASTEL_LAST_CALL) {
-                accepted[table.calls[c].number] += table.cells[c].code == LINGUASTEL_E_OK;
+                accepted[table.calls[c].number] += linguastel_is_ok(table.cells[c]);
             }
         }
     }
@@ -1128,7 +1570,7 @@ enum { FROM = LINGUASTEL_LAST_CALL + 1, LEAVES };
 
 static LinguastelAnswer call_by_number(LinguastelRecord *record, LinguastelCall call)
 {
-    return linguastel_guarded_call(record, call);
+    return linguastel_call(record, call);
 }
 
 static LinguastelAnswer call_by_name(LinguastelRecord *record, LinguastelCall call)
@@ -1158,7 +1600,7 @@ static LinguastelAnswer call_by_name(LinguastelRecord *record, LinguastelCall ca
     case LINGUASTEL_RSM_TSK: return linguastel_rsm_tsk(record, by, call.object);
     case LINGUASTEL_LOOK: return linguastel_look(record, by, call.object);
     case LINGUASTEL_FETCH: return linguastel_fetch(record, by, call.object);
-    default: return linguastel_guarded_tick(record);
+    default: return linguastel_tick(record);
     }
 }
 
@@ -1222,7 +1664,7 @@ static bool answer_is(LinguastelAnswer answer, const Line *line)
 {
     char place[16];
     snprintf(place, sizeof place, "W%" PRIu32, answer.place);
-    const char *text = answer.kind == LINGUASTEL_WAITS ? place : linguastel_code_name(answer.code);
+    const char *text = linguastel_waits(answer) ? place : linguastel_code_name(answer.code);
     return strcmp(text, line->answer) == 0 && answer.a == line->a && answer.b == line->b && answer.c == line->c;
 }
 
@@ -1258,8 +1700,10 @@ static void play_call(LinguastelRecord *record, Way *way, const Line *line)
     check(linguastel_sound(record), line->text);
     LinguastelRecord before = *record;
     LinguastelAnswer answer = way(record, line->call);
+    must_be_whole(answer);
     check(answer_is(answer, line), line->text);
-    if (answer.code != LINGUASTEL_E_OK || only_reads(line->call.number)) {
+    check_views(record);
+    if ((!linguastel_is_ok(answer) && !linguastel_waits(answer)) || only_reads(line->call.number)) {
         check(same_record(record, &before), line->text);
         check_writes_nothing(&before, line->call, answer, line->text);
     }
@@ -1279,7 +1723,7 @@ static void play_line(LinguastelRecord *record, Way *way, const Line *line)
 static void play_runs(Way *way)
 {
     LinguastelRecord start, record;
-    linguastel_empty(&start);
+    must_be_e_ok(linguastel_empty(&start));
     for (size_t i = 0; i < line_count; i++) {
         if (i > 0 && lines[i].run != lines[i - 1].run) {
             record = start;
@@ -1319,7 +1763,7 @@ static void play_table(LinguastelRecord *record, size_t first, size_t count)
 static void play_runs_as_tables(void)
 {
     LinguastelRecord start, record;
-    linguastel_empty(&start);
+    must_be_e_ok(linguastel_empty(&start));
     for (size_t i = 0; i < line_count;) {
         if (i > 0 && lines[i].run != lines[i - 1].run) {
             record = start;
@@ -1359,6 +1803,250 @@ static void test_each_call(void)
 static void test_error_table(void)
 {
     play_all_ways("error_table.txt", 11);
+}
+
+/* ---- Groups: what the header says beside the library ---- */
+
+static void test_version(void)
+{
+    char text[32];
+    snprintf(text, sizeof text, "%d.%d.%d", LINGUASTEL_VERSION / 10000, LINGUASTEL_VERSION / 100 % 100, LINGUASTEL_VERSION % 100);
+    check(strcmp(text, LINGUASTEL_VERSION_TEXT) == 0, "the version's number and text");
+    check(linguastel_version() == LINGUASTEL_VERSION, "the version of the library");
+    check(linguastel_table_version() == LINGUASTEL_VERSION, "the version of the library for tables");
+    check(linguastel_replay_version() == LINGUASTEL_VERSION, "the version of the library for replays");
+    check(linguastel_library_fits(), "the library fits");
+    check(linguastel_table_library_fits(), "the library for tables fits");
+    check(linguastel_replay_library_fits(), "the library for replays fits");
+}
+
+/* Zeros are the empty record and a new replay. */
+static void test_zeros(void)
+{
+    static LinguastelRecord record;
+    static LinguastelReplay replay;
+    LinguastelRecord emptied, *allocated = calloc(1, sizeof *allocated);
+    LinguastelReplay new_one;
+    fill_with_noise(&emptied, sizeof emptied);
+    fill_with_noise(&new_one, sizeof new_one);
+    must_be_e_ok(linguastel_empty(&emptied));
+    must_be_e_ok(linguastel_replay_empty(&new_one));
+    check(memcmp(&record, &emptied, sizeof record) == 0, "a static record");
+    check(allocated != NULL && memcmp(allocated, &emptied, sizeof emptied) == 0, "a record from calloc");
+    check(memcmp(&replay, &new_one, sizeof replay) == 0, "a static replay");
+    check(linguastel_sound(&record) && linguastel_waiting(&record) == 0 && linguastel_runnable(&record) == 0, "nothing is defined");
+    must_be_ok(linguastel_idefine_task(&record, 1, 5));
+    must_be_ok(linguastel_icre_dtq(&record, 1, LINGUASTEL_TA_TFIFO, 1));
+    must_be_ok(linguastel_snd_dtq(&record, linguastel_as_task(1), 1, 42));
+    check(linguastel_iprcv_dtq(&record, 1).a == 42, "a static record is ready for use");
+    check(linguastel_replay_end(&replay).code == LINGUASTEL_E_OK, "a static replay is ready for use");
+    free(allocated);
+}
+
+/* Each of the six calls that may wait; an answer that waits isn't E_OK. */
+static void test_waits(void)
+{
+    static const uint32_t numbers[] = { LINGUASTEL_SND_DTQ, LINGUASTEL_TSND_DTQ, LINGUASTEL_RCV_DTQ, LINGUASTEL_TRCV_DTQ, LINGUASTEL_RCV_MBX,
+        LINGUASTEL_TRCV_MBX };
+    for (size_t i = 0; i < LENGTH(numbers); i++) {
+        LinguastelRecord record = { 0 }, twin;
+        must_be_ok(linguastel_idefine_task(&record, 1, 5));
+        must_be_ok(linguastel_icre_dtq(&record, 1, LINGUASTEL_TA_TFIFO, 0));
+        must_be_ok(linguastel_icre_mbx(&record, 1, LINGUASTEL_TA_TFIFO, 0));
+        twin = record;
+        LinguastelCall call = { .number = numbers[i], .caller = 1, .object = 1, .tmout = LINGUASTEL_TMO_FEVR };
+        LinguastelAnswer cell, answer = linguastel_call(&record, call);
+        must_be_whole(answer);
+        check(answer.code == 1 && linguastel_waits(answer) && !linguastel_is_ok(answer), "an answer that waits");
+        must_be_e_ok(linguastel_table(&twin, &call, 1, &cell, 1));
+        check(same_answer(answer, cell), "the same in a table");
+        check(linguastel_waiting(&record) == 1 && linguastel_runnable(&record) == 0, "the task waits");
+    }
+    check(!linguastel_is_ok((LinguastelAnswer){ .kind = LINGUASTEL_WAITS }), "an answer that waits isn't E_OK, whatever its code");
+    check(linguastel_is_ok(linguastel_refusal(LINGUASTEL_E_OK)) && !linguastel_waits(linguastel_refusal(LINGUASTEL_E_OK)), "an answer with E_OK");
+    check(!linguastel_is_ok(linguastel_refusal(LINGUASTEL_E_PAR)) && !linguastel_waits(linguastel_refusal(LINGUASTEL_E_PAR)), "a refused call");
+}
+
+static const int32_t codes[] = { LINGUASTEL_E_OK, LINGUASTEL_E_SYS, LINGUASTEL_E_PAR, LINGUASTEL_E_ID, LINGUASTEL_E_CTX, LINGUASTEL_E_ILUSE,
+    LINGUASTEL_E_OBJ, LINGUASTEL_E_NOEXS, LINGUASTEL_E_QOVR, LINGUASTEL_E_RLWAI, LINGUASTEL_E_TMOUT, LINGUASTEL_E_DLT };
+
+static void test_names(void)
+{
+    static const char *const waits[] = { "no wait", "to send to a data queue", "to receive from a data queue", "to receive from a mailbox" };
+    for (size_t i = 0; i < LENGTH(codes); i++) {
+        check(strncmp(linguastel_code_name(codes[i]), "E_", 2) == 0, "a code's name");
+        for (size_t k = 0; k < i; k++) {
+            check(strcmp(linguastel_code_name(codes[i]), linguastel_code_name(codes[k])) != 0, "no two codes have one name");
+            check(strcmp(linguastel_code_meaning(codes[i]), linguastel_code_meaning(codes[k])) != 0, "no two codes have one meaning");
+        }
+    }
+    check(strcmp(linguastel_code_name(LINGUASTEL_E_PAR), "E_PAR") == 0, "E_PAR");
+    check(strcmp(linguastel_code_meaning(LINGUASTEL_E_QOVR), "the task is suspended already") == 0, "the meaning of E_QOVR");
+    check(strcmp(linguastel_code_name(LINGUASTEL_NO_CODE), "no code of the kernel") == 0, "the name of no code");
+    check(strcmp(linguastel_code_meaning(LINGUASTEL_NO_CODE), "no code of the kernel") == 0, "the meaning of no code");
+    for (uint32_t number = 0; number <= LINGUASTEL_LAST_CALL; number++) {
+        check(strcmp(linguastel_call_name(number), call_names[number]) == 0, call_names[number]);
+    }
+    check(strcmp(linguastel_call_name(LINGUASTEL_LAST_CALL + 1), "no call") == 0, "the name of number 24");
+    check(strcmp(linguastel_call_name(UINT32_MAX), "no call") == 0, "the name of the largest number");
+    for (uint8_t wait = 0; wait < LENGTH(waits); wait++) {
+        check(strcmp(linguastel_wait_name(wait), waits[wait]) == 0, waits[wait]);
+    }
+    check(strcmp(linguastel_wait_name(4), "no kind of wait") == 0, "the name of wait 4");
+}
+
+/* The first cause that applies; the pointers' causes are in the group of the pointers. */
+static void test_causes(void)
+{
+    LinguastelRecord record, unsound;
+    make_various(&record);
+    memset(&unsound, 0xff, sizeof unsound);
+    check(linguastel_sys_cause(&record, 0) == LINGUASTEL_CAUSE_NONE, "a handler");
+    check(linguastel_sys_cause(&record, 3) == LINGUASTEL_CAUSE_NONE, "a task that can call");
+    check(linguastel_sys_cause(&record, 1) == LINGUASTEL_CAUSE_CALLER_CANNOT_CALL, "a task that waits");
+    check(linguastel_sys_cause(&record, 2) == LINGUASTEL_CAUSE_CALLER_CANNOT_CALL, "a task that waits and is suspended");
+    must_be_ok(linguastel_isus_tsk(&record, 3));
+    check(linguastel_sys_cause(&record, 3) == LINGUASTEL_CAUSE_CALLER_CANNOT_CALL, "a task that is suspended");
+    check(linguastel_sys_cause(&record, 32) == LINGUASTEL_CAUSE_NO_CALLER, "a task that isn't defined");
+    check(linguastel_sys_cause(&record, 33) == LINGUASTEL_CAUSE_NO_CALLER, "task 33");
+    for (size_t i = 0; i < LENGTH(too_large); i++) {
+        check(linguastel_sys_cause(&record, too_large[i]) == LINGUASTEL_CAUSE_NO_CALLER, "a task that nobody is");
+        check(linguastel_sys_cause(&unsound, too_large[i]) == LINGUASTEL_CAUSE_NOT_SOUND, "a record that isn't sound comes first");
+    }
+    check(linguastel_sys_cause(&unsound, 0) == LINGUASTEL_CAUSE_NOT_SOUND, "a record that isn't sound");
+    for (int cause = LINGUASTEL_CAUSE_NONE; cause <= LINGUASTEL_CAUSE_CALLER_CANNOT_CALL; cause++) {
+        for (int other = LINGUASTEL_CAUSE_NONE; other < cause; other++) {
+            bool differ = strcmp(linguastel_cause_name((LinguastelCause)cause), linguastel_cause_name((LinguastelCause)other)) != 0;
+            check(differ, "no two causes have one name");
+        }
+    }
+    LinguastelRecord *read = read_only(&record, AT_END);
+    check(linguastel_sys_cause(read, 1) == LINGUASTEL_CAUSE_CALLER_CANNOT_CALL && linguastel_sound(read), "a cause is told without a write");
+}
+
+/* Numbers that nobody has, on whatever record: 0, and nothing beside the record is read. */
+static void check_out_of_range(const LinguastelRecord *record)
+{
+    static const uint32_t none[] = { 0, 17, 33, 65, 81, 255, 256, 65537, UINT32_MAX };
+    for (size_t i = 0; i < LENGTH(none); i++) {
+        check(linguastel_first_sender(record, none[i]) == 0 && linguastel_first_receiver(record, none[i]) == 0, "no data queue has this number");
+        check(linguastel_first_waiter(record, none[i]) == 0 && linguastel_first_message(record, none[i]) == 0, "no mailbox has this number");
+        check(linguastel_word_count(record, none[i]) == 0 && linguastel_word(record, none[i], 0) == 0, "no data queue of this number has words");
+        bool no_task = none[i] == 0 || none[i] > LINGUASTEL_TASKS, no_message = none[i] == 0 || none[i] > LINGUASTEL_MESSAGES;
+        check(!no_task || (linguastel_next_task(record, none[i]) == 0 && linguastel_task_bit(none[i]) == 0), "no task has this number");
+        check(!no_message || linguastel_next_message(record, none[i]) == 0, "no message has this number");
+        check(linguastel_word(record, 2, LINGUASTEL_WORDS + none[i] % 4096) == 0, "no place has this number");
+    }
+}
+
+/* Whatever the bytes are, what is given is a number that somebody has, or 0. */
+static void check_in_range(const LinguastelRecord *record)
+{
+    for (uint32_t number = 0; number <= LINGUASTEL_MESSAGES; number++) {
+        check(linguastel_first_sender(record, number) <= LINGUASTEL_TASKS, "a sender");
+        check(linguastel_first_receiver(record, number) <= LINGUASTEL_TASKS, "a receiver");
+        check(linguastel_first_waiter(record, number) <= LINGUASTEL_TASKS, "a waiter");
+        check(linguastel_next_task(record, number) <= LINGUASTEL_TASKS, "a task");
+        check(linguastel_first_message(record, number) <= LINGUASTEL_MESSAGES, "a message");
+        check(linguastel_next_message(record, number) <= LINGUASTEL_MESSAGES, "the message behind it");
+        check(linguastel_word_count(record, number) <= LINGUASTEL_WORDS, "a number of words");
+        for (uint32_t place = 0; place <= LINGUASTEL_WORDS; place++) {
+            uint32_t word = linguastel_word(record, number, place);
+            check(place < linguastel_word_count(record, number) || word == 0, "a word behind the last");
+        }
+    }
+}
+
+static void test_iterators(void)
+{
+    LinguastelRecord record;
+    for (int i = 0; i < 50; i++) {
+        fill_with_noise(&record, sizeof record);
+        const LinguastelRecord *read = read_only(&record, i % 2 == 0 ? AT_START : AT_END);
+        check_out_of_range(read);
+        check_in_range(read);
+    }
+    make_various(&record);
+    check_out_of_range(&record);
+    check_views(&record);
+    for (unsigned i = 0; i < 2000; i++) {
+        spoil_unused(&record);
+        must_be_whole(linguastel_call(&record, random_call()));
+        if (i % 4 == 0) {
+            check_views(&record);
+        }
+    }
+}
+
+/* All tasks, each in one of four states. Of whatever record, no task waits and can run. The masks only read. */
+static void test_masks(void)
+{
+    LinguastelRecord record = { 0 };
+    must_be_ok(linguastel_icre_dtq(&record, 1, LINGUASTEL_TA_TFIFO, 0));
+    for (uint32_t task = 1; task <= LINGUASTEL_TASKS; task++) {
+        must_be_ok(linguastel_idefine_task(&record, task, 1 + task % LINGUASTEL_LOWEST_PRIORITY));
+        if (task % 2 == 0) {
+            must_wait(linguastel_rcv_dtq(&record, linguastel_as_task(task), 1));
+        }
+        if (task % 4 >= 2) {
+            must_be_ok(linguastel_isus_tsk(&record, task));
+        }
+        check_masks(&record);
+    }
+    check(linguastel_waiting(&record) == 0xaaaaaaaa && linguastel_runnable(&record) == 0x11111111, "the masks of all tasks");
+    check_views(&record);
+    for (int i = 0; i < 50; i++) {
+        fill_with_noise(&record, sizeof record);
+        const LinguastelRecord *read = read_only(&record, i % 2 == 0 ? AT_START : AT_END);
+        check((linguastel_waiting(read) & linguastel_runnable(read)) == 0, "no task waits and can run");
+    }
+}
+
+/* The three lines of a scheduler: task 3 serves task 1, which can run then; its own wait ends its turn. */
+static void test_scheduler(void)
+{
+    LinguastelRecord record;
+    make_typical(&record);
+    uint32_t before = linguastel_runnable(&record);
+    LinguastelAnswer answer = linguastel_snd_dtq(&record, linguastel_as_task(3), 1, 10);
+    uint32_t woken = linguastel_runnable(&record) & ~before;
+    check(linguastel_is_ok(answer) && woken == linguastel_task_bit(1), "the receiver is woken");
+    before = linguastel_runnable(&record);
+    must_wait(linguastel_rcv_dtq(&record, linguastel_as_task(3), 1));
+    check((before & ~linguastel_runnable(&record)) == linguastel_task_bit(3), "the caller can't run any more");
+    must_be_ok(linguastel_isus_tsk(&record, 3));
+    before = linguastel_waiting(&record);
+    must_be_ok(linguastel_ipsnd_dtq(&record, 1, 11));
+    check((before & ~linguastel_waiting(&record)) == linguastel_task_bit(3), "the wait of a suspended task ends");
+    check((linguastel_runnable(&record) & linguastel_task_bit(3)) == 0, "it can't run before it is resumed");
+
+    LinguastelCall calls[] = { { .number = LINGUASTEL_RCV_DTQ, .caller = 1, .object = 1 }, { .number = LINGUASTEL_PSND_DTQ, .object = 1, .value = 12 },
+        { .number = LINGUASTEL_RCV_DTQ, .caller = 1, .object = 1 } };
+    LinguastelAnswer cells[LENGTH(calls)];
+    must_be_e_ok(linguastel_table(&record, calls, LENGTH(calls), cells, LENGTH(cells)));
+    check(linguastel_waits(cells[0]) && linguastel_is_ok(cells[1]) && linguastel_waits(cells[2]), "in a table a task is woken and waits again");
+    check((linguastel_waiting(&record) & linguastel_task_bit(1)) != 0, "the masks show the last wait alone");
+}
+
+/* What traces are given besides records. */
+static void test_trace_pointers(void)
+{
+    uint8_t bytes[2 * LINGUASTEL_TRACE_SIZE], before[sizeof bytes];
+    LinguastelCall calls[2] = { { .number = LINGUASTEL_LOOK } };
+    LinguastelAnswer answers[2] = { { .code = LINGUASTEL_E_ID } };
+    memset(bytes, 0xa5, sizeof bytes);
+    memcpy(before, bytes, sizeof bytes);
+    check(linguastel_trace(NULL, calls[0], answers[0]) == 0, "no bytes for a call");
+    check(linguastel_trace_tick(NULL, answers[0]) == 0, "no bytes for a tick");
+    check(linguastel_trace_table(NULL, calls, 1, answers, LINGUASTEL_E_OK) == 0, "no bytes for a table");
+    for (unsigned kind = NO_POINTER; kind < POINTERS; kind++) {
+        if (kind != ALIGNED) {
+            check(linguastel_trace_table(bytes, pointer_to(calls, kind), 1, answers, LINGUASTEL_E_OK) == 0, "calls at such a pointer");
+            check(linguastel_trace_table(bytes, calls, 1, pointer_to(answers, kind), LINGUASTEL_E_OK) == 0, "answers at such a pointer");
+        }
+    }
+    check(memcmp(bytes, before, sizeof bytes) == 0, "nothing is written");
+    check(linguastel_trace_table(bytes, calls, 1, answers, LINGUASTEL_E_OK) == LINGUASTEL_TRACE_SIZE, "a table at pointers that fit");
 }
 
 /* ---- Groups: recording calls ---- */
@@ -1466,7 +2154,7 @@ static void test_trace_table(void)
     LinguastelAnswer cells[LENGTH(calls)];
     LinguastelRecord record;
     uint8_t bytes[(LENGTH(calls) + 1) * LINGUASTEL_TRACE_SIZE], expected[2 * LINGUASTEL_TRACE_SIZE];
-    linguastel_empty(&record);
+    must_be_e_ok(linguastel_empty(&record));
     int32_t code = linguastel_table(&record, calls, LENGTH(calls), cells, LENGTH(cells));
     memset(bytes, 0xa5, sizeof bytes);
     check(linguastel_trace_table(bytes, calls, LENGTH(calls), cells, code) == sizeof expected, "the calls of a table");
@@ -1527,8 +2215,8 @@ static void replay(Replay *to, const uint8_t *bytes, size_t size)
         LinguastelAnswer answer = linguastel_call(&to->record, call);
         check(is_answer_in(bytes + at, answer), "the replay answers what was recorded");
         to->calls++;
-        to->waits += answer.kind == LINGUASTEL_WAITS;
-        to->accepted[call.number] += answer.kind == LINGUASTEL_FINISHED && answer.code == LINGUASTEL_E_OK;
+        to->waits += linguastel_waits(answer);
+        to->accepted[call.number] += linguastel_is_ok(answer);
     }
 }
 
@@ -1554,8 +2242,8 @@ static void test_random_traces(void)
     static Replay twin;
     LinguastelRecord record;
     Table table = { .call_count = 0 }, before;
-    linguastel_empty(&record);
-    linguastel_empty(&twin.record);
+    must_be_e_ok(linguastel_empty(&record));
+    must_be_e_ok(linguastel_empty(&twin.record));
     while (twin.calls < 20000) {
         LinguastelCall call = random_wide_call();
         LinguastelAnswer answer = linguastel_call(&record, call);
@@ -1631,7 +2319,7 @@ static void check_block_refused(const LinguastelReplay *content, const uint8_t *
 static void make_replay(LinguastelReplay *replay)
 {
     fill_with_noise(replay, sizeof *replay);
-    linguastel_replay_empty(replay);
+    must_be_e_ok(linguastel_replay_empty(replay));
     make_typical(&replay->kernel);
 }
 
@@ -1713,13 +2401,13 @@ static void feed_all(LinguastelReplay *replay, const uint8_t *bytes, size_t size
 static LinguastelLine check_all_cuts(const uint8_t *bytes, size_t size, const char *what)
 {
     LinguastelReplay twin, replay;
-    linguastel_replay_empty(&twin);
+    must_be_e_ok(linguastel_replay_empty(&twin));
     play_singly(&twin, bytes, size);
     for (size_t i = 0; i < 2 * LENGTH(cuts); i++) {
         bool spoil = i >= LENGTH(cuts);
         fill_with_noise(&replay, sizeof replay);
         paint_stack(paints[i % 2]);
-        linguastel_replay_empty(&replay);
+        must_be_e_ok(linguastel_replay_empty(&replay));
         feed_all(&replay, bytes, size, cuts[i % LENGTH(cuts)], spoil, what);
         check(same_numbers_and_part(&replay, &twin), what);
         check(spoil ? linguastel_sound(&replay.kernel) : same_record(&replay.kernel, &twin.kernel), what);
@@ -1742,13 +2430,13 @@ static void test_new_replay(void)
 {
     LinguastelRecord record;
     LinguastelReplay replay, twin;
-    linguastel_empty(&record);
+    must_be_e_ok(linguastel_empty(&record));
     memset(&replay, 0x11, sizeof replay);
     memset(&twin, 0xee, sizeof twin);
     paint_stack(paints[0]);
-    linguastel_replay_empty(&replay);
+    must_be_e_ok(linguastel_replay_empty(&replay));
     paint_stack(paints[1]);
-    linguastel_replay_empty(&twin);
+    must_be_e_ok(linguastel_replay_empty(&twin));
     check(same_replay(&replay, &twin), "whatever its bytes were");
     check(same_record(&replay.kernel, &record), "the kernel's state is the empty one");
     check(same_line(linguastel_replay_end(&replay), (LinguastelLine){ 0 }), "the line: zeros with E_OK");
@@ -1802,7 +2490,7 @@ static void test_random_replays(void)
     for (unsigned i = 0; i < 40; i++) {
         LinguastelRecord record;
         size_t size = 0, room = sizeof bytes - noise_below(32) - LINGUASTEL_TRACE_SIZE;
-        linguastel_empty(&record);
+        must_be_e_ok(linguastel_empty(&record));
         while (size < room) {
             LinguastelCall call = random_wide_call();
             size_t added = linguastel_trace(bytes + size, call, linguastel_call(&record, call));
@@ -1994,6 +2682,37 @@ static void test_most_records(void)
     check(same_line(linguastel_replay_end(&replay), line), "the line with the part");
 }
 
+/* A block with either paint on the stack: the replay comes out the same, byte for byte, and without a byte of paint. Its blocks hold calls with answers. */
+static void test_blocks_on_paint(void)
+{
+    LinguastelReplay content, replays[LENGTH(paints)];
+    uint8_t bytes[LENGTH(not_refused) * LINGUASTEL_TRACE_SIZE];
+    size_t size = 0;
+    must_be_e_ok(linguastel_replay_empty(&content));
+    make_various(&content.kernel);
+    for (size_t i = 0; i < LENGTH(not_refused); i++) {
+        size += linguastel_trace(bytes + size, not_refused[i], linguastel_refusal(LINGUASTEL_E_OK));
+    }
+    check(size == sizeof bytes && !has_paint(bytes, size), "the block before it is fed");
+    for (size_t length = 0; length <= size; length += 37) {
+        for (size_t i = 0; i < LENGTH(paints); i++) {
+            replays[i] = content;
+            paint_stack(paints[i]);
+            must_be_e_ok(linguastel_replay_feed(&replays[i], bytes, length));
+            paint_stack(paints[i]);
+            must_be_e_ok(linguastel_replay_end(&replays[i]).code);
+        }
+        check(same_replay(&replays[0], &replays[1]), "a byte comes from the stack");
+        check(!has_paint(&replays[0], sizeof replays[0]), "a byte of paint");
+    }
+    for (size_t i = 0; i < LENGTH(paints); i++) {
+        memset(&replays[i], paints[i], sizeof replays[i]);
+        paint_stack(paints[i]);
+        must_be_e_ok(linguastel_replay_empty(&replays[i]));
+    }
+    check(same_replay(&replays[0], &replays[1]) && !has_paint(&replays[0], sizeof replays[0]), "a new replay");
+}
+
 /* A replay and a block, each at the edge of a page. */
 typedef struct {
     LinguastelReplay *replay;
@@ -2055,14 +2774,14 @@ static void test_replay_neighbours(void)
         uint8_t after[256];
     } memory;
     memset(&memory, 0xA5, sizeof memory);
-    linguastel_replay_empty(&memory.replay);
+    must_be_e_ok(linguastel_replay_empty(&memory.replay));
     for (size_t i = 0; i < LENGTH(sizes); i++) {
-        linguastel_replay_feed(&memory.replay, ticks, sizes[i]);
-        linguastel_replay_feed(&memory.replay, not_run, sizes[i]);
-        linguastel_replay_end(&memory.replay);
+        must_be_e_ok(linguastel_replay_feed(&memory.replay, ticks, sizes[i]));
+        must_be_e_ok(linguastel_replay_feed(&memory.replay, not_run, sizes[i]));
+        must_be_e_ok(linguastel_replay_end(&memory.replay).code);
     }
     memory.replay.length = 32;
-    linguastel_replay_feed(&memory.replay, ticks, 1);
+    check(linguastel_replay_feed(&memory.replay, ticks, 1) == LINGUASTEL_E_SYS, "a part of 32 bytes");
     check(all_are(memory.before, sizeof memory.before, 0xA5), "the bytes before the replay");
     check(all_are(memory.after, sizeof memory.after, 0xA5), "the bytes after the replay");
 }
@@ -2070,12 +2789,12 @@ static void test_replay_neighbours(void)
 /* With this pointer, which leads to no replay. */
 static void check_no_replay(LinguastelReplay *pointer)
 {
-    check(!linguastel_guarded_replay_empty(pointer), "empty");
-    check(linguastel_guarded_replay_feed(pointer, ticks, 1) == LINGUASTEL_E_SYS, "a block");
-    check(linguastel_guarded_replay_feed(pointer, ticks, 0) == LINGUASTEL_E_SYS, "a block of no bytes");
-    check(linguastel_guarded_replay_feed(pointer, NULL, 0) == LINGUASTEL_E_SYS, "a block of no bytes, at no address");
-    check(linguastel_guarded_replay_feed(pointer, NULL, 1) == LINGUASTEL_E_SYS, "a block at no address");
-    check(same_line(linguastel_guarded_replay_end(pointer), (LinguastelLine){ .code = LINGUASTEL_E_SYS }), "the end");
+    check(linguastel_replay_empty(pointer) == LINGUASTEL_E_SYS, "empty");
+    check(linguastel_replay_feed(pointer, ticks, 1) == LINGUASTEL_E_SYS, "a block");
+    check(linguastel_replay_feed(pointer, ticks, 0) == LINGUASTEL_E_SYS, "a block of no bytes");
+    check(linguastel_replay_feed(pointer, NULL, 0) == LINGUASTEL_E_SYS, "a block of no bytes, at no address");
+    check(linguastel_replay_feed(pointer, NULL, 1) == LINGUASTEL_E_SYS, "a block at no address");
+    check(same_line(linguastel_replay_end(pointer), (LinguastelLine){ .code = LINGUASTEL_E_SYS }), "the end");
 }
 
 /* Behind a misaligned pointer stands a replay that is let through, so that nothing but the pointer is wrong. */
@@ -2101,24 +2820,24 @@ static void test_block_pointers(void)
     make_replay(&replay);
     set_numbers(&replay, &(Numbers){ 5, 2, 3, 7, "" });
     content = replay;
-    check(linguastel_guarded_replay_feed(&replay, NULL, 1) == LINGUASTEL_E_PAR, "a block at no address");
-    check(linguastel_guarded_replay_feed(&replay, NULL, SIZE_MAX) == LINGUASTEL_E_PAR, "a long block at no address");
+    check(linguastel_replay_feed(&replay, NULL, 1) == LINGUASTEL_E_PAR, "a block at no address");
+    check(linguastel_replay_feed(&replay, NULL, SIZE_MAX) == LINGUASTEL_E_PAR, "a long block at no address");
     check(same_replay(&replay, &content), "the replay of a block at no address");
-    check(linguastel_guarded_replay_feed(&replay, NULL, 0) == LINGUASTEL_E_OK, "a block of no bytes, at no address");
+    check(linguastel_replay_feed(&replay, NULL, 0) == LINGUASTEL_E_OK, "a block of no bytes, at no address");
     check(same_numbers_and_part(&replay, &content), "the replay of a block of no bytes");
     for (size_t offset = 0; offset < 8; offset++) {
         replay = content;
-        check(linguastel_guarded_replay_feed(&replay, not_run + offset, 25) == LINGUASTEL_E_OK, "a block at any address");
+        check(linguastel_replay_feed(&replay, not_run + offset, 25) == LINGUASTEL_E_OK, "a block at any address");
         LinguastelLine line = { .records = 6, .differ = 3, .first = 3 };
-        check(same_line(linguastel_guarded_replay_end(&replay), line), "the line of a block at any address");
+        check(same_line(linguastel_replay_end(&replay), line), "the line of a block at any address");
     }
     content.length = 32;
     replay = content;
-    check(linguastel_guarded_replay_feed(&replay, NULL, 1) == LINGUASTEL_E_SYS, "E_SYS before E_PAR");
-    check(linguastel_guarded_replay_feed(&replay, NULL, 0) == LINGUASTEL_E_SYS, "E_SYS with a block of no bytes, at no address");
-    check(same_line(linguastel_guarded_replay_end(&replay), (LinguastelLine){ .code = LINGUASTEL_E_SYS }), "E_SYS at the end");
+    check(linguastel_replay_feed(&replay, NULL, 1) == LINGUASTEL_E_SYS, "E_SYS before E_PAR");
+    check(linguastel_replay_feed(&replay, NULL, 0) == LINGUASTEL_E_SYS, "E_SYS with a block of no bytes, at no address");
+    check(same_line(linguastel_replay_end(&replay), (LinguastelLine){ .code = LINGUASTEL_E_SYS }), "E_SYS at the end");
     check(same_replay(&replay, &content), "the replay that isn't let through");
-    check(linguastel_guarded_replay_empty(&replay) && replay.records == 0 && replay.length == 0, "a new replay");
+    check(linguastel_replay_empty(&replay) == LINGUASTEL_E_OK && replay.records == 0 && replay.length == 0, "a new replay");
 }
 
 /* ---- All groups ---- */
@@ -2128,6 +2847,8 @@ static const struct {
     void (*test)(void);
 } groups[] = {
     { "size and alignment of the record", test_layout },
+    { "versions, and whether the libraries fit", test_version },
+    { "records and replays of zeros", test_zeros },
     { "bytes before and after the record", test_neighbours },
     { "null and misaligned pointers", test_pointers },
     { "callers and objects that nobody has", test_callers_and_objects },
@@ -2137,7 +2858,11 @@ static const struct {
     { "records with one fault", test_faults },
     { "records with damaged flags", test_damaged_flags },
     { "calls that write nothing", test_writes_nothing },
-    { "bytes of the stack", test_stack },
+    { "the painted stack", test_paint },
+    { "calls on a painted stack", test_calls_on_paint },
+    { "a table on a painted stack", test_table_on_paint },
+    { "records from painted memory", test_records_on_paint },
+    { "bytes of the stack, with noise in unused fields", test_stack },
     { "the record as C sees it", test_view },
     { "time-outs", test_time_outs },
     { "tables, long and short", test_table_lengths },
@@ -2152,6 +2877,13 @@ static const struct {
     { "the sixteen runs of document 01", test_sixteen_runs },
     { "each call, accepted", test_each_call },
     { "the error table", test_error_table },
+    { "answers that wait", test_waits },
+    { "names in words", test_names },
+    { "the causes of E_SYS", test_causes },
+    { "iterators", test_iterators },
+    { "masks of all tasks", test_masks },
+    { "masks around a call", test_scheduler },
+    { "traces at null and misaligned pointers", test_trace_pointers },
     { "the bytes of recorded calls", test_trace_bytes },
     { "the bytes of a tick", test_trace_tick },
     { "the bytes of a table", test_trace_table },
@@ -2164,6 +2896,7 @@ static const struct {
     { "replays with a record that isn't sound", test_replay_of_unsound_records },
     { "replays with numbers that are let through", test_replay_numbers_let_through },
     { "the most records of a replay", test_most_records },
+    { "blocks on a painted stack", test_blocks_on_paint },
     { "replays and blocks at the edge of a page", test_replay_edges },
     { "bytes before and after a replay", test_replay_neighbours },
     { "null and misaligned replays", test_replay_pointers },

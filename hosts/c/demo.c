@@ -7,14 +7,15 @@
 
 #include "linguastel.h"
 
-/* A host uses the kernel in five lines. */
-static LinguastelAnswer five_lines(LinguastelRecord *record)
+/* A host uses the kernel in five lines; the sixth looks at the last answer. Gives the received word, or 0 where a call was refused. */
+static uint32_t five_lines(void)
 {
-    linguastel_empty(record);
-    linguastel_idefine_task(record, 1, 5);
-    linguastel_icre_dtq(record, 1, LINGUASTEL_TA_TFIFO, 8);
-    linguastel_snd_dtq(record, linguastel_as_task(1), 1, 42);
-    return linguastel_iprcv_dtq(record, 1);
+    static LinguastelRecord record; /* of zeros: that is the empty record */
+    bool sent = linguastel_is_ok(linguastel_idefine_task(&record, 1, 5))
+        && linguastel_is_ok(linguastel_icre_dtq(&record, 1, LINGUASTEL_TA_TFIFO, 8))
+        && linguastel_is_ok(linguastel_snd_dtq(&record, linguastel_as_task(1), 1, 42));
+    LinguastelAnswer received = linguastel_iprcv_dtq(&record, 1);
+    return sent && linguastel_is_ok(received) ? received.a : 0;
 }
 
 /* ---- The carriers ---- */
@@ -74,7 +75,7 @@ static void keep(Host *host, const uint8_t *bytes, size_t size)
 static LinguastelAnswer make(Host *host, LinguastelCall call)
 {
     uint8_t bytes[LINGUASTEL_TRACE_SIZE];
-    LinguastelAnswer answer = linguastel_guarded_call(&host->record, call);
+    LinguastelAnswer answer = linguastel_call(&host->record, call);
     keep(host, bytes, linguastel_trace(bytes, call, answer));
     return answer;
 }
@@ -82,35 +83,32 @@ static LinguastelAnswer make(Host *host, LinguastelCall call)
 static int32_t make_table(Host *host, const LinguastelCall *calls, LinguastelAnswer *answers, size_t count)
 {
     uint8_t bytes[LINGUASTEL_TABLE * LINGUASTEL_TRACE_SIZE];
-    int32_t code = linguastel_guarded_table(&host->record, calls, count, answers, count);
+    int32_t code = linguastel_table(&host->record, calls, count, answers, count);
     keep(host, bytes, linguastel_trace_table(bytes, calls, count, answers, code));
     return code;
 }
 
-/* A trace starts at the empty record. */
-static void start(Host *host)
+/* A trace starts at the empty record. Gives whether all tasks and queues are there now. */
+static bool start(Host *host)
 {
-    linguastel_empty(&host->record);
-    for (uint32_t task = 1; task <= LAST_TASK; task++) {
-        make(host, (LinguastelCall){ .number = LINGUASTEL_DEFINE_TASK, .object = task, .value = PRIORITY });
+    bool ready = linguastel_empty(&host->record) == LINGUASTEL_E_OK;
+    for (uint32_t task = 1; ready && task <= LAST_TASK; task++) {
+        ready = linguastel_is_ok(make(host, (LinguastelCall){ .number = LINGUASTEL_DEFINE_TASK, .object = task, .value = PRIORITY }));
     }
-    for (uint32_t queue = 1; queue <= LAST_QUEUE; queue++) {
-        make(host, (LinguastelCall){ .number = LINGUASTEL_CRE_DTQ, .object = queue, .attribute = LINGUASTEL_TA_TFIFO, .value = CAPACITY });
+    for (uint32_t queue = 1; ready && queue <= LAST_QUEUE; queue++) {
+        LinguastelCall create = { .number = LINGUASTEL_CRE_DTQ, .object = queue, .attribute = LINGUASTEL_TA_TFIFO, .value = CAPACITY };
+        ready = linguastel_is_ok(make(host, create));
     }
     host->element = 1;
+    return ready;
 }
 
 /* ---- What is printed of an answer ---- */
 
-static bool is_ok(LinguastelAnswer answer)
-{
-    return answer.kind == LINGUASTEL_FINISHED && answer.code == LINGUASTEL_E_OK;
-}
-
 static void say(const char *what, LinguastelAnswer answer)
 {
     printf("      %s: ", what);
-    if (answer.kind == LINGUASTEL_WAITS) {
+    if (linguastel_waits(answer)) {
         printf("waits, place %" PRIu32 "\n", answer.place);
     } else if (answer.a != 0) {
         printf("%s, %" PRIu32 "\n", linguastel_code_name(answer.code), answer.a);
@@ -154,7 +152,7 @@ static size_t hand_over(Host *host, const char *who, uint32_t task, uint32_t que
     }
     int32_t code = make_table(host, calls, answers, count);
     size_t accepted = 0;
-    while (code == LINGUASTEL_E_OK && accepted < count && is_ok(answers[accepted])) {
+    while (code == LINGUASTEL_E_OK && accepted < count && linguastel_is_ok(answers[accepted])) {
         accepted++;
     }
     say_table(who, code, answers, count, accepted);
@@ -171,7 +169,7 @@ static void b_imports(Host *host, size_t step)
 static void b_reads(Host *host)
 {
     LinguastelAnswer answer = make(host, (LinguastelCall){ .number = LINGUASTEL_PRCV_DTQ, .caller = B_READER, .object = B_QUEUE });
-    if (is_ok(answer)) {
+    if (linguastel_is_ok(answer)) {
         host->b_received[host->b_count++] = answer.a;
     }
 }
@@ -181,7 +179,7 @@ static void a_reads(Host *host)
     for (int taken = 0; taken < A_TAKES; taken++) {
         LinguastelAnswer answer = make(host, (LinguastelCall){ .number = LINGUASTEL_PRCV_DTQ, .caller = A_READER, .object = A_QUEUE });
         say("A's reader, prcv_dtq", answer);
-        host->a_received += is_ok(answer);
+        host->a_received += linguastel_is_ok(answer);
     }
 }
 
@@ -207,8 +205,8 @@ static bool a_got_room(Host *host)
 {
     LinguastelAnswer ended = make(host, (LinguastelCall){ .number = LINGUASTEL_FETCH, .caller = A_IMPORT, .object = A_IMPORT });
     say("A's import task, fetch", ended);
-    host->element += is_ok(ended);
-    return is_ok(ended);
+    host->element += linguastel_is_ok(ended);
+    return linguastel_is_ok(ended);
 }
 
 static void a_hands_over(Host *host)
@@ -220,10 +218,16 @@ static void a_hands_over(Host *host)
     host->element += (uint32_t)hand_over(host, "A's import task", A_IMPORT, A_QUEUE, elements, A_BURST);
 }
 
+static bool a_can_call(Host *host)
+{
+    LinguastelAnswer look = make(host, (LinguastelCall){ .number = LINGUASTEL_LOOK, .object = A_IMPORT });
+    return linguastel_is_ok(look) && linguastel_looked(look).tskwait == LINGUASTEL_NO_WAIT;
+}
+
 /* Hands over a burst where there may be room, then waits with the first element that was refused. */
 static void a_imports(Host *host)
 {
-    if (host->a_stopped || make(host, (LinguastelCall){ .number = LINGUASTEL_LOOK, .object = A_IMPORT }).a != LINGUASTEL_NO_WAIT) {
+    if (host->a_stopped || !a_can_call(host)) {
         return;
     }
     if (!host->a_waits || a_got_room(host)) {
@@ -234,9 +238,9 @@ static void a_imports(Host *host)
     char what[64];
     snprintf(what, sizeof what, "A's import task, tsnd_dtq of element %" PRIu32, host->element);
     say(what, answer);
-    host->element += is_ok(answer);
-    host->a_waits = answer.kind == LINGUASTEL_WAITS;
-    host->a_stopped = !host->a_waits && !is_ok(answer);
+    host->element += linguastel_is_ok(answer);
+    host->a_waits = linguastel_waits(answer);
+    host->a_stopped = !host->a_waits && !linguastel_is_ok(answer);
 }
 
 /* ---- The picture ---- */
@@ -244,15 +248,16 @@ static void a_imports(Host *host)
 /* A queue's stored words, a # for each, and whether a sender waits. */
 static void draw_queue(LinguastelAnswer reference)
 {
-    if (reference.code == LINGUASTEL_E_NOEXS) {
-        printf("  %-23s", "deleted");
+    if (!linguastel_is_ok(reference)) {
+        printf("  %-23s", reference.code == LINGUASTEL_E_NOEXS ? "deleted" : linguastel_code_name(reference.code));
         return;
     }
+    LinguastelRdtq queue = linguastel_rdtq(reference);
     char bar[CAPACITY + 1] = "";
     for (uint32_t place = 0; place < CAPACITY; place++) {
-        bar[place] = place < reference.c ? '#' : '.';
+        bar[place] = place < queue.sdtqcnt ? '#' : '.';
     }
-    printf("  %s %-14s", bar, reference.a != 0 ? "a sender waits" : "");
+    printf("  %s %-14s", bar, queue.stskid != LINGUASTEL_TSK_NONE ? "a sender waits" : "");
 }
 
 static void draw(Host *host)
@@ -268,7 +273,7 @@ static void draw(Host *host)
 static void tick(Host *host)
 {
     LinguastelAnswer ticked = make(host, (LinguastelCall){ .number = LINGUASTEL_TICK });
-    if (ticked.a != 0) {
+    if (!linguastel_is_ok(ticked) || ticked.a != 0) {
         say("tick, waits that it ended", ticked);
     }
 }
@@ -309,7 +314,7 @@ static void tell(Host *host)
 static bool sum_up(const Host *host)
 {
     bool in_order = b_arrived_in_order(host);
-    bool sound = linguastel_guarded_sound(&host->record);
+    bool sound = linguastel_sound(&host->record);
     printf("\nCarrier A: %" PRIu32 " of %" PRIu64 " elements accepted, %" PRIu32 " received.\n", host->element - 1, elements_of_a(), host->a_received);
     printf("Carrier B: %zu of %d words received, %s.\n", host->b_count, STEPS, in_order ? "in order" : "not in order");
     printf("The record is %s.\n", sound ? "sound" : "not sound");
@@ -333,15 +338,19 @@ static bool close_trace(Host *host)
 int main(int count, char **arguments)
 {
     static Host host;
-    printf("In five lines: a task sent 42, a handler received %" PRIu32 ".\n\n", five_lines(&host.record).a);
+    if (!linguastel_library_fits() || !linguastel_table_library_fits()) {
+        fprintf(stderr, "the library isn't that of the header, " LINGUASTEL_VERSION_TEXT "\n");
+        return 1;
+    }
+    printf("In five lines: a task sent 42, a handler received %" PRIu32 ".\n\n", five_lines());
 
     host.trace = count > 1 ? fopen(arguments[1], "wb") : NULL;
     if (count > 1 && host.trace == NULL) {
         perror(arguments[1]);
         return 1;
     }
-    start(&host);
+    bool right = start(&host);
     tell(&host);
-    bool right = sum_up(&host);
+    right &= sum_up(&host);
     return close_trace(&host) && right ? 0 : 1;
 }

@@ -101,13 +101,12 @@ static void make_table(Host *host)
 
 int main(int count, char **arguments)
 {
-    static Host host;
+    static Host host; /* its record is of zeros: the empty one */
     host.trace = count == 2 ? fopen(arguments[1], "wb") : NULL;
     if (host.trace == NULL) {
         fprintf(stderr, "recorder FILE: the file can't be written\n");
         return EXIT_FAILURE;
     }
-    linguastel_empty(&host.record);
     while (host.size < ENOUGH * LINGUASTEL_TRACE_SIZE && !ferror(host.trace)) {
         uint32_t step = below(16);
         if (step == 0) {

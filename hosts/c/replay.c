@@ -29,14 +29,14 @@ static size_t receive(uint8_t *block, FILE *file)
     return fread(block, 1, below(2) == 0 ? below(FEW + 1) : below(MANY + 1), file);
 }
 
-/* Each block up to the file's end. Gives the code of the last one. */
+/* A new replay, then each block up to the file's end. Gives the last code. */
 static int32_t feed(LinguastelReplay *replay, FILE *file)
 {
     uint8_t block[MANY];
-    int32_t code = LINGUASTEL_E_OK;
+    int32_t code = linguastel_replay_empty(replay);
     while (code == LINGUASTEL_E_OK && !feof(file) && !ferror(file)) {
         size_t size = receive(block, file);
-        code = linguastel_guarded_replay_feed(replay, block, size);
+        code = linguastel_replay_feed(replay, block, size);
     }
     return code;
 }
@@ -52,20 +52,23 @@ static bool set_seed(const char *text)
 int main(int count, char **arguments)
 {
     LinguastelReplay replay;
+    if (!linguastel_replay_library_fits()) {
+        fprintf(stderr, "the library isn't that of the header, " LINGUASTEL_VERSION_TEXT "\n");
+        return 1;
+    }
     bool right = count == 2 || (count == 3 && set_seed(arguments[2]));
     FILE *file = right ? fopen(arguments[1], "rb") : NULL;
     if (file == NULL) {
         fprintf(stderr, "replay FILE [SEED]: called wrongly, or the file can't be opened\n");
         return 2;
     }
-    linguastel_replay_empty(&replay);
     int32_t code = feed(&replay, file);
     if (ferror(file)) {
         perror(arguments[1]);
         return 2;
     }
     fclose(file);
-    LinguastelLine line = linguastel_guarded_replay_end(&replay);
+    LinguastelLine line = linguastel_replay_end(&replay);
     if (code != LINGUASTEL_E_OK || line.code != LINGUASTEL_E_OK) {
         fprintf(stderr, "the library refuses: a block %s, the end %s\n", linguastel_code_name(code), linguastel_code_name(line.code));
         return 1;
