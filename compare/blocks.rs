@@ -65,7 +65,7 @@ pub fn compare_in_blocks(bytes: &[u8], cut: Cut, known: Option<&Line>, random: &
         both.feed(block, counts).map_err(in_block)?;
         left = rest;
         if random.percent(ENDS) {
-            both.end(counts).map_err(in_block)?;
+            both.end(counts).map(drop).map_err(in_block)?;
         }
         if random.percent(REWRITTEN) {
             both.rewrite(random);
@@ -103,7 +103,7 @@ fn compare_state(random: &mut Random, counts: &mut Counts) -> Result<(), String>
 impl Both {
     /// Some blocks, and the end before the first and after the last, at times also between them.
     fn feed_some(&mut self, replay: &ReplayState, profile: &Profile, random: &mut Random, counts: &mut Counts) -> Result<(), String> {
-        self.end(counts)?;
+        self.end(counts).map(drop)?;
         for number in 1..=random.between(1, 4) {
             let in_block = |text| format!("block {number} on it: {text}");
             // Calls are made up for a state that is sound.
@@ -111,7 +111,7 @@ impl Both {
             let block = random_block(random, profile, guide);
             self.feed(&block, counts).map_err(in_block)?;
             if random.percent(ENDS) {
-                self.end(counts).map_err(in_block)?;
+                self.end(counts).map(drop).map_err(in_block)?;
             }
         }
         self.end(counts).map(drop)

@@ -65,7 +65,7 @@ impl Both {
     }
 
     fn given<'a>(&mut self, block: &'a [u8], counts: &mut Counts) -> Result<Given<'a>, String> {
-        let before = self.lent;
+        let before = self.lent.clone();
         let code = self.lent.feed(block);
         let feed = || self.second.as_mut().map_or(E_SYS, |second| second.feed(block, &mut counts.reached));
         let fed = catch_unwind(AssertUnwindSafe(feed));
@@ -76,7 +76,7 @@ impl Both {
 
     /// The end on both, which the recording need not have reached. Gives the library's line.
     pub fn end(&self, counts: &mut Counts) -> Result<linguastel::Line, String> {
-        let mut lent = self.lent;
+        let mut lent = self.lent.clone();
         // The library only gets a reference to read by. Without these two the compiler could take the record for unchanged, and compare nothing.
         black_box(&mut lent);
         let line = lent.end();
@@ -307,7 +307,7 @@ mod tests {
             ("kernel.counter 2 became 3", |replay| replay.kernel.counter = 3),
         ];
         for (text, make) in changes {
-            let mut after = before;
+            let mut after = before.clone();
             make(&mut after);
             assert!(change(&before, &after).starts_with(text), "{text}");
         }
@@ -332,7 +332,7 @@ mod tests {
             change(&mut changed);
             assert!(both.difference_of_end(&both.lent, &changed, (E_OK, second)).is_some_and(|text| text.starts_with("the ends differ")));
         }
-        let mut left = both.lent;
+        let mut left = both.lent.clone();
         left.part[31] ^= 1;
         assert!(both.difference_of_end(&left, &line, (E_OK, second)).is_some_and(|text| text.starts_with("the end changed the record: part")));
     }

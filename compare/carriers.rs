@@ -36,8 +36,8 @@ impl Counts {
         for (call, answer) in entry.calls().iter().zip(&answers.cells) {
             self.calls += 1;
             self.calls_in_tables += u64::from(is_table);
-            self.waits += u64::from(answer.waits());
-            self.refused += u64::from(answer.code != 0 && call.number != number::FETCH);
+            self.waits += u64::from(answer.read().waits());
+            self.refused += u64::from(matches!(answer.read(), linguastel::Answer::Error(_)) && call.number != number::FETCH);
         }
     }
 }
@@ -56,7 +56,7 @@ enum Entry {
 struct Answers {
     /// None for a call.
     code: Option<i32>,
-    cells: Vec<linguastel::Answer>,
+    cells: Vec<linguastel::HostAnswer>,
 }
 
 impl Entry {
@@ -69,9 +69,9 @@ impl Entry {
 
     fn play(&self, record: &mut Record) -> Answers {
         match self {
-            Entry::Call(call) => Answers::of_call(record.call(kernel_call(call))),
+            Entry::Call(call) => Answers::of_call(record.host_call(kernel_call(call))),
             Entry::Table(table) => {
-                let marks: Vec<linguastel::Answer> = table.answers.iter().map(kernel_answer).collect();
+                let marks: Vec<linguastel::HostAnswer> = table.answers.iter().map(kernel_answer).collect();
                 let (code, cells) = post_on_kernel(record, &table.calls, &marks);
                 Answers { code: Some(code), cells }
             }
@@ -87,7 +87,7 @@ impl Entry {
 }
 
 impl Answers {
-    fn of_call(answer: linguastel::Answer) -> Answers {
+    fn of_call(answer: linguastel::HostAnswer) -> Answers {
         Answers { code: None, cells: vec![answer] }
     }
 
@@ -204,7 +204,7 @@ fn names_only(own: &Own, call: &Call) -> bool {
 /// A list of calls and tables, no ticks, that a carrier makes from this record on, with what they get.
 fn random_list(start: &Record, own: &Own, random: &mut Random) -> Result<Vec<Answered>, String> {
     let profile = Profile::restricted(random.pick(&second::KINDS), own.clone());
-    let mut record = *start;
+    let mut record = start.clone();
     let mut list = Vec::new();
     for _ in 0..10 + random.below(60) {
         let state = state_of(&record).ok_or("no state can be read after an entry of a carrier")?;
@@ -253,7 +253,7 @@ fn random_turns(merge: usize, lengths: [usize; 2], random: &mut Random) -> Vec<O
 }
 
 fn play_merge(start: &Record, lists: &[Vec<Answered>; 2], turns: &[Owner], counts: &mut Counts) -> Result<Record, String> {
-    let mut record = *start;
+    let mut record = start.clone();
     let mut next = [0, 0];
     for (position, &turn) in turns.iter().enumerate() {
         let Answered { entry, answers: alone } = &lists[turn][next[turn]];
@@ -328,7 +328,7 @@ mod tests {
     #[test]
     fn tables_as_single_calls() {
         let calls = singly(&example());
-        let answers: Vec<linguastel::Answer> = calls.iter().flat_map(|answered| answered.answers.cells.clone()).collect();
+        let answers: Vec<linguastel::HostAnswer> = calls.iter().flat_map(|answered| answered.answers.cells.clone()).collect();
         let codes = [0, 0, linguastel::E_OBJ].map(Answer::refused);
         assert_eq!(answers, codes.map(|answer| kernel_answer(&answer)));
         assert!(play_merge(&Record::empty(), &[calls, Vec::new()], &[0, 0, 0], &mut Counts::default()).is_ok());

@@ -1,7 +1,7 @@
 //! One call on the kernel and on the second program: the answers must be the same and the states equal, and a call that is refused, or only reads, must
 //! leave every byte of the kernel's record.
 use crate::record::{answer_in_words, kernel_answer, kernel_call, record_of, state_of};
-use linguastel::{number, Outcome, Record, E_OK};
+use linguastel::{number, Record};
 use second::{Answer, Call, Random, Reached, State};
 use std::panic::{catch_unwind, AssertUnwindSafe};
 
@@ -19,8 +19,8 @@ impl Pair {
 
     /// Plays a call on both. An error is the difference in words.
     pub fn play(&mut self, call: &Call, reached: &mut Reached) -> Result<Answer, String> {
-        let before = self.record;
-        let kernel = self.record.call(kernel_call(call));
+        let before = self.record.clone();
+        let kernel = self.record.host_call(kernel_call(call));
         let played = catch_unwind(AssertUnwindSafe(|| self.state.play(call, reached)));
         let second =
             played.map_err(|_| format!("the second program panics\ncall: {call}\n── the state before the call ──\n{}", words_of(&before)))?;
@@ -30,7 +30,7 @@ impl Pair {
         }
     }
 
-    fn difference(&self, call: &Call, before: &Record, kernel: &linguastel::Answer, second: &Answer) -> Option<String> {
+    fn difference(&self, call: &Call, before: &Record, kernel: &linguastel::HostAnswer, second: &Answer) -> Option<String> {
         if *kernel != kernel_answer(second) {
             return Some("the answers differ".to_string());
         }
@@ -44,7 +44,7 @@ impl Pair {
         }
     }
 
-    fn in_words(&self, what: &str, call: &Call, before: &Record, kernel: &linguastel::Answer, second: &Answer) -> String {
+    fn in_words(&self, what: &str, call: &Call, before: &Record, kernel: &linguastel::HostAnswer, second: &Answer) -> String {
         let answers = format!("the kernel answers: {}\nthe second program answers: {second}", answer_in_words(kernel));
         format!("{what}\ncall: {call}\n{answers}\n{}", self.states_in_words(before))
     }
@@ -59,9 +59,9 @@ impl Pair {
 }
 
 /// Whether a call with this answer changes no byte of the record.
-pub fn leaves_the_record(call: &Call, answer: &linguastel::Answer) -> bool {
+pub fn leaves_the_record(call: &Call, answer: &linguastel::HostAnswer) -> bool {
     let reads = matches!(call.number, number::REF_DTQ | number::REF_MBX | number::LOOK | number::FETCH);
-    reads || !matches!(answer.outcome(), Outcome::Finished(E_OK) | Outcome::Waits(_))
+    reads || matches!(answer.read(), linguastel::Answer::Error(_))
 }
 
 /// The lines that only one of two states in words has.

@@ -3,7 +3,7 @@
 //! Document 01, 'A sound record', says what counts. The rest of a record is unused: cell 0 of every array, links of numbers that stand in no chain,
 //! keys of messages that keep no priority, what an undefined task or object left behind, the fields that a wait doesn't use, a ring's cells outside
 //! its stored words, the spare fields. `state_of` never looks at those, and `record_of` fills them with random numbers.
-use linguastel::{Record, AT_MAILBOX, DEFINED, NO_WAIT, RECEIVING, SENDING, SUSPENDED};
+use linguastel::{Record, AT_MAILBOX, DEFINED, NO_CODE, NO_WAIT, RECEIVING, SENDING, SUSPENDED};
 use second::{Answer, Call, Mailbox, Message, Queue, Random, State, Task, Wait};
 
 const TASKS: usize = linguastel::TASKS;
@@ -40,17 +40,17 @@ pub fn second_call(call: &linguastel::Call) -> Call {
     }
 }
 
-/// The kernel's answer that is the same as this one. What a kind of answer doesn't have is 0 there.
-pub fn kernel_answer(answer: &Answer) -> linguastel::Answer {
+/// The kernel's answer that is the same as this one. What a kind of answer doesn't have is 0 there, and the code of one that waits is no code.
+pub fn kernel_answer(answer: &Answer) -> linguastel::HostAnswer {
     match *answer {
-        Answer::Finished { code, a, b, c } => linguastel::Answer { kind: 0, code, place: 0, a, b, c },
-        Answer::Waits { place } => linguastel::Answer { kind: 1, code: 0, place, a: 0, b: 0, c: 0 },
+        Answer::Finished { code, a, b, c } => linguastel::HostAnswer { kind: 0, code, place: 0, a, b, c },
+        Answer::Waits { place } => linguastel::HostAnswer { kind: 1, code: NO_CODE, place, a: 0, b: 0, c: 0 },
     }
 }
 
 /// The kernel's answer in words, by the second program's words where it has some for it.
-pub fn answer_in_words(answer: &linguastel::Answer) -> String {
-    let linguastel::Answer { kind, code, place, a, b, c } = *answer;
+pub fn answer_in_words(answer: &linguastel::HostAnswer) -> String {
+    let linguastel::HostAnswer { kind, code, place, a, b, c } = *answer;
     let read = if kind == 0 { Answer::Finished { code, a, b, c } } else { Answer::Waits { place } };
     if kernel_answer(&read) == *answer {
         read.to_string()
@@ -353,7 +353,7 @@ mod tests {
             ("priority of a message", |record| record.messages.key[64] -= 1),
         ];
         for (field, change) in changes {
-            let mut changed = record;
+            let mut changed = record.clone();
             change(&mut changed);
             assert!(!state_of(&changed).is_some_and(|read| read.equal(&state)), "{field}");
         }
@@ -398,7 +398,7 @@ mod tests {
             ("where the ring starts", |record| record.queues[1].ring.head = 16),
         ];
         for (what, change) in changes {
-            let mut changed = record;
+            let mut changed = record.clone();
             change(&mut changed);
             assert!(state_of(&changed).is_none() && !changed.is_sound(), "{what}");
         }

@@ -64,32 +64,32 @@ pub struct Counts {
 // ── On the kernel ──
 
 /// Hands a table to the kernel, with these cells. Gives its code and what the cells hold then.
-pub fn post_on_kernel(record: &mut Record, calls: &[Call], cells: &[linguastel::Answer]) -> (i32, Vec<linguastel::Answer>) {
+pub fn post_on_kernel(record: &mut Record, calls: &[Call], cells: &[linguastel::HostAnswer]) -> (i32, Vec<linguastel::HostAnswer>) {
     let calls: Vec<linguastel::Call> = calls.iter().map(kernel_call).collect();
     let mut cells = cells.to_vec();
     (record.table(&calls, &mut cells), cells)
 }
 
 /// The calls of a table made singly, with their answers. Number 0 isn't made, since it would be a tick.
-fn make_singly(record: &mut Record, calls: &[Call]) -> Vec<linguastel::Answer> {
+fn make_singly(record: &mut Record, calls: &[Call]) -> Vec<linguastel::HostAnswer> {
     let mut single = |call: &Call| match call.number {
         number::TICK => kernel_answer(&Answer::refused(E_PAR)),
-        _ => record.call(kernel_call(call)),
+        _ => record.host_call(kernel_call(call)),
     };
     calls.iter().map(&mut single).collect()
 }
 
 /// Cells for the kernel: the second program's marks or, in every other table, any numbers in all fields.
-pub fn cells_for_kernel(marks: &[Answer], random: &mut Random) -> Vec<linguastel::Answer> {
+pub fn cells_for_kernel(marks: &[Answer], random: &mut Random) -> Vec<linguastel::HostAnswer> {
     if random.percent(50) {
         return marks.iter().map(kernel_answer).collect();
     }
     marks.iter().map(|_| any_answer(random)).collect()
 }
 
-fn any_answer(random: &mut Random) -> linguastel::Answer {
+fn any_answer(random: &mut Random) -> linguastel::HostAnswer {
     let [kind, place, a, b, c] = std::array::from_fn(|_| random_word(random));
-    linguastel::Answer { kind, code: random_word(random) as i32, place, a, b, c }
+    linguastel::HostAnswer { kind, code: random_word(random) as i32, place, a, b, c }
 }
 
 // ── On both ──
@@ -112,15 +112,15 @@ struct Posted<'a> {
     /// With the second program's cells as they were before.
     table: &'a Table,
     /// The kernel's cells as they were before.
-    lent: &'a [linguastel::Answer],
+    lent: &'a [linguastel::HostAnswer],
     before: Record,
-    kernel: (i32, Vec<linguastel::Answer>),
+    kernel: (i32, Vec<linguastel::HostAnswer>),
     second: (i32, Vec<Answer>),
 }
 
 impl Pair {
     /// Posts a table on both, on the kernel with the cells `lent`. An error is the difference in words.
-    fn post(&mut self, table: &Table, lent: &[linguastel::Answer], reached: &mut Reached, counts: &mut Counts) -> Result<(), String> {
+    fn post(&mut self, table: &Table, lent: &[linguastel::HostAnswer], reached: &mut Reached, counts: &mut Counts) -> Result<(), String> {
         let posted = self.posted(table, lent, reached)?;
         posted.count(counts);
         match posted.difference(self) {
@@ -129,8 +129,8 @@ impl Pair {
         }
     }
 
-    fn posted<'a>(&mut self, table: &'a Table, lent: &'a [linguastel::Answer], reached: &mut Reached) -> Result<Posted<'a>, String> {
-        let before = self.record;
+    fn posted<'a>(&mut self, table: &'a Table, lent: &'a [linguastel::HostAnswer], reached: &mut Reached) -> Result<Posted<'a>, String> {
+        let before = self.record.clone();
         let kernel = post_on_kernel(&mut self.record, &table.calls, lent);
         let mut cells = table.answers.clone();
         let played = catch_unwind(AssertUnwindSafe(|| second::post(&mut self.state, &table.calls, &mut cells, reached)));
@@ -151,7 +151,7 @@ impl Posted<'_> {
     }
 
     /// The calls with their answers, of a table that was taken.
-    fn answered(&self) -> impl Iterator<Item = (&Call, &linguastel::Answer)> {
+    fn answered(&self) -> impl Iterator<Item = (&Call, &linguastel::HostAnswer)> {
         self.table.calls.iter().zip(&self.kernel.1)
     }
 
@@ -193,7 +193,7 @@ impl Posted<'_> {
 
     /// The same calls made singly on the kernel.
     fn difference_singly(&self, pair: &Pair) -> Option<String> {
-        let mut record = self.before;
+        let mut record = self.before.clone();
         let singly = make_singly(&mut record, &self.table.calls);
         let apart = self.answered().zip(&singly).position(|((_, answer), single)| answer != single);
         if let Some(place) = apart {
@@ -292,7 +292,7 @@ mod tests {
     fn a_difference_in_words() {
         let (mut pair, table) = (start(), example());
         pair.state.queues[1].words.push(9);
-        let lent: Vec<linguastel::Answer> = table.answers.iter().map(kernel_answer).collect();
+        let lent: Vec<linguastel::HostAnswer> = table.answers.iter().map(kernel_answer).collect();
         let text = pair.post(&table, &lent, &mut Reached::new(), &mut Counts::default()).expect_err("a difference");
         for line in [
             "cell 1 differs",

@@ -41,8 +41,8 @@ impl Programs {
         Programs { record: Record { counter, ..Record::empty() }, state: State::empty(counter) }
     }
 
-    fn play(&mut self, call: &linguastel::Call) -> (linguastel::Answer, linguastel::Answer) {
-        let kernel = self.record.call(*call);
+    fn play(&mut self, call: &linguastel::Call) -> (linguastel::HostAnswer, linguastel::HostAnswer) {
+        let kernel = self.record.host_call(*call);
         (kernel, kernel_answer(&self.state.play(&second_call(call), &mut Reached::default())))
     }
 
@@ -73,7 +73,7 @@ fn play_record(bytes: &[u8; SIZE], programs: &mut Programs, replay: &mut Replay)
             return;
         }
     };
-    let (before, state) = (programs.record, programs.state.clone());
+    let (before, state) = (programs.record.clone(), programs.state.clone());
     let (kernel, second) = programs.play(&call);
     replay.kernel.count(recorded == kernel);
     replay.second.count(recorded == second);

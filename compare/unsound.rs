@@ -77,7 +77,7 @@ fn compare_judgement(record: &Record, way: usize, random: &mut Random, counts: &
         return Err(format!("the kernel's test says sound: {}; the second program: {second}\n{}", !sound, damaged_in_words(record)));
     }
     match read {
-        Some(state) if sound => play_some(Pair { record: *record, state }, random, counts, reached),
+        Some(state) if sound => play_some(Pair { record: record.clone(), state }, random, counts, reached),
         read => {
             if let Some(state) = &read {
                 second_refuses(state, random, reached)?;
@@ -162,7 +162,7 @@ fn any_table(call: &Call, random: &mut Random) -> Table {
 }
 
 fn refuse_table(record: &Record, table: &Table, random: &mut Random) -> Result<(), String> {
-    let mut lent = *record;
+    let mut lent = record.clone();
     let cells = cells_for_kernel(&table.answers, random);
     let (code, left) = post_on_kernel(&mut lent, &table.calls, &cells);
     if code == E_SYS && left == cells && lent == *record {
@@ -175,9 +175,9 @@ fn refuse_table(record: &Record, table: &Table, random: &mut Random) -> Result<(
 }
 
 fn expect(record: &Record, call: &Call, code: i32) -> Result<(), String> {
-    let mut lent = *record;
-    let answer = lent.call(kernel_call(call));
-    let refusal = linguastel::Answer { kind: 0, code, place: 0, a: 0, b: 0, c: 0 };
+    let mut lent = record.clone();
+    let answer = lent.host_call(kernel_call(call));
+    let refusal = linguastel::HostAnswer { kind: 0, code, place: 0, a: 0, b: 0, c: 0 };
     if answer == refusal && lent == *record {
         return Ok(());
     }

@@ -1,5 +1,5 @@
 //! A record of a trace, as document 02's item 3 lays it out: 32 bytes, little-endian, tmout and code signed.
-use linguastel::{number, Answer, Call, TRACE_SIZE};
+use linguastel::{number, Call, HostAnswer, NO_CODE, TRACE_SIZE};
 use std::fmt::{Display, Formatter};
 
 pub const SIZE: usize = TRACE_SIZE;
@@ -17,7 +17,7 @@ const SPARE_BYTES: [usize; 4] = [17, 18, 19, 31];
 #[derive(Clone, Copy, PartialEq, Debug)]
 pub struct Recorded {
     pub call: Call,
-    pub answer: Answer,
+    pub answer: HostAnswer,
 }
 
 /// Why a record isn't run.
@@ -75,12 +75,12 @@ fn call_in(bytes: &[u8; SIZE]) -> Call {
 }
 
 /// Code and place stand in the same field. The words of a wait are read as well: the kernel's are 0, so that anything else there differs.
-fn answer_in(bytes: &[u8; SIZE]) -> Answer {
+fn answer_in(bytes: &[u8; SIZE]) -> HostAnswer {
     let waits = bytes[16] == 1;
     let code_or_place = word_at(bytes, 20);
-    let (code, place) = if waits { (0, code_or_place) } else { (code_or_place as i32, 0) };
+    let (code, place) = if waits { (NO_CODE, code_or_place) } else { (code_or_place as i32, 0) };
     let (a, b, c) = (word_at(bytes, 24), bytes[28].into(), u16::from_le_bytes([bytes[29], bytes[30]]).into());
-    Answer { kind: waits.into(), code, place, a, b, c }
+    HostAnswer { kind: waits.into(), code, place, a, b, c }
 }
 
 #[cfg(test)]
@@ -140,7 +140,7 @@ mod tests {
             tmout: 0xff0a_0908_u32 as i32,
             attribute: 0x0f0e_0d0c,
         };
-        let answer = Answer { kind: 0, code: 0xff16_1514_u32 as i32, place: 0, a: 0x1b1a_1918, b: 0x1c, c: 0x1e1d };
+        let answer = HostAnswer { kind: 0, code: 0xff16_1514_u32 as i32, place: 0, a: 0x1b1a_1918, b: 0x1c, c: 0x1e1d };
         assert_eq!(read(&bytes), Ok(Recorded { call, answer }));
         assert_eq!(call.trace(answer), Some(bytes));
     }
@@ -149,7 +149,7 @@ mod tests {
     fn a_wait_has_a_place() {
         let bytes = with(&[(0, 4), (16, 1), (20, 7), (24, 9)]);
         let recorded = read(&bytes).expect("it is run");
-        assert_eq!(recorded.answer, Answer { kind: 1, code: 0, place: 7, a: 9, b: 0, c: 0 });
+        assert_eq!(recorded.answer, HostAnswer { kind: 1, code: NO_CODE, place: 7, a: 9, b: 0, c: 0 });
         assert_eq!(recorded.call.trace(recorded.answer), Some(bytes));
     }
 

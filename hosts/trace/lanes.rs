@@ -116,13 +116,15 @@ impl Lanes {
             let cells = &after.queues[lane.number];
             let exists = cells.defined != 0;
             let capacity = if exists { cells.ring.capacity.into() } else { 0 };
-            let waited_at = !state::senders(after, lane.number).is_empty() || !state::receivers(after, lane.number).is_empty();
+            let number = lane.number as u32;
+            let waited_at = after.senders(number).chain(after.receivers(number)).next().is_some();
             lane.see(Level { record, exists, capacity, held: cells.ring.count.into() }, waited_at);
         }
         for lane in &mut self.mailboxes {
             let exists = after.mailboxes[lane.number].defined != 0;
-            let held = state::messages(after, lane.number).len() as u32;
-            lane.see(Level { record, exists, capacity: 0, held }, !state::waiters(after, lane.number).is_empty());
+            let number = lane.number as u32;
+            let held = after.messages(number).count() as u32;
+            lane.see(Level { record, exists, capacity: 0, held }, after.waiters(number).next().is_some());
         }
     }
 

@@ -2,7 +2,7 @@
 use crate::decode::SIZE;
 use crate::play::{self, Run, Step};
 use crate::{state, words};
-use linguastel::number;
+use linguastel::{call_name, number};
 use std::io::{Result, Write};
 
 // Widths of the columns for the caller, the call's name and its arguments.
@@ -41,7 +41,7 @@ pub fn of_step(step: &Step) -> String {
         _ => words::arguments(call),
     };
     let answer = words::answer(call.number, &run.recorded.answer);
-    format!("{:CALLER$}{:NAME$}{:ARGUMENTS$}{answer}", words::caller(call), words::name(call.number), format!("{arguments} "))
+    format!("{:CALLER$}{:NAME$}{:ARGUMENTS$}{answer}", words::caller(call), call_name(call.number), format!("{arguments} "))
 }
 
 /// The lines under it.

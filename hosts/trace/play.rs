@@ -1,6 +1,6 @@
 //! A trace replayed on the kernel, record by record.
 use crate::decode::{self, NotRun, Recorded, SIZE};
-use linguastel::{Answer, Record};
+use linguastel::{HostAnswer, Record};
 use std::fmt::{Display, Formatter};
 
 /// The line of item 3.
@@ -53,7 +53,7 @@ pub struct Step {
 #[derive(Clone, Copy)]
 pub struct Run {
     pub recorded: Recorded,
-    pub replayed: Answer,
+    pub replayed: HostAnswer,
 }
 
 impl Step {
@@ -73,9 +73,9 @@ pub fn steps(bytes: &[u8], counter: u32) -> impl Iterator<Item = Step> + '_ {
     let mut record = Record { counter, ..Record::empty() };
     (1..).zip(bytes.chunks_exact(SIZE)).map(move |(number, chunk)| {
         let bytes = chunk.try_into().expect("a chunk has the size of a record");
-        let before = record;
-        let outcome = decode::read(&bytes).map(|recorded| Run { recorded, replayed: record.call(recorded.call) });
-        Step { number, bytes, before, after: record, outcome }
+        let before = record.clone();
+        let outcome = decode::read(&bytes).map(|recorded| Run { recorded, replayed: record.host_call(recorded.call) });
+        Step { number, bytes, before, after: record.clone(), outcome }
     })
 }
 

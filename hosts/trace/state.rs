@@ -1,8 +1,6 @@
-//! What a record of the replay holds, in words. The kernel keeps a sound record sound, so that every chain read here ends; a chain is followed for as
-//! many numbers as there are all the same.
+//! What a record of the replay holds, in words.
 use crate::words;
-use linguastel::{Mailbox, Queue, Record, AT_MAILBOX, MAILBOXES, MESSAGES, NO_WAIT, QUEUES, RECEIVING, SENDING, SUSPENDED, TASKS, TA_MPRI, WORDS};
-use linguastel::{HEADS_OF_MESSAGES, HEADS_OF_RECEIVERS, HEADS_OF_SENDERS, HEADS_OF_WAITERS};
+use linguastel::{Record, AT_MAILBOX, MAILBOXES, NO_WAIT, QUEUES, RECEIVING, SENDING, SUSPENDED, TASKS, TA_MPRI};
 use std::fmt::{Display, Formatter};
 
 // ── Waits ──
@@ -95,34 +93,6 @@ pub fn ended(before: &Record, after: &Record) -> Vec<Ended> {
     waits.map(|(task, wait, (code, word))| Ended { task, wait, code, word }).collect()
 }
 
-// ── Chains and rings ──
-
-fn chain(link: &[u8], head: usize, most: usize) -> Vec<usize> {
-    let next = |number: &usize| Some(usize::from(link[*number]));
-    std::iter::successors(next(&head), next).take_while(|number| (1..=most).contains(number)).take(most).collect()
-}
-
-pub fn senders(record: &Record, queue: usize) -> Vec<usize> {
-    chain(&record.waiting.link, HEADS_OF_SENDERS + queue, TASKS)
-}
-
-pub fn receivers(record: &Record, queue: usize) -> Vec<usize> {
-    chain(&record.waiting.link, HEADS_OF_RECEIVERS + queue, TASKS)
-}
-
-pub fn waiters(record: &Record, mailbox: usize) -> Vec<usize> {
-    chain(&record.waiting.link, HEADS_OF_WAITERS + mailbox, TASKS)
-}
-
-pub fn messages(record: &Record, mailbox: usize) -> Vec<usize> {
-    chain(&record.messages.link, HEADS_OF_MESSAGES + mailbox, MESSAGES)
-}
-
-/// Oldest first.
-pub fn stored_words(queue: &Queue) -> Vec<u32> {
-    (0..usize::from(queue.ring.count)).map(|place| queue.ring.words[(usize::from(queue.ring.head) + place) % WORDS]).collect()
-}
-
 // ── The whole state ──
 
 /// So many things and which ones.
@@ -131,39 +101,41 @@ fn listed<T: Display>(count: &str, items: &[T]) -> String {
     format!("{count}{separator}{}", items.iter().map(T::to_string).collect::<Vec<_>>().join(", "))
 }
 
-fn tasks(record: &Record, numbers: &[usize]) -> String {
-    let task = |number: &usize| match wait_of(record, *number) {
+fn tasks(record: &Record, numbers: &[u32]) -> String {
+    let task = |number: &u32| match wait_of(record, *number as usize) {
         Some(Wait { kind: Kind::Sending(word), .. }) => format!("task {number} with word {word}"),
         _ => format!("task {number}"),
     };
     numbers.iter().map(task).collect::<Vec<_>>().join(", ")
 }
 
-fn queue_in_words(record: &Record, number: usize, queue: &Queue) -> String {
-    let stored = stored_words(queue);
+fn queue_in_words(record: &Record, number: u32) -> String {
+    let (queue, stored): (_, Vec<u32>) = (&record.queues[number as usize], record.words(number).collect());
     let (count, capacity, attribute) = (stored.len(), queue.ring.capacity, words::attribute(queue.attribute.into()));
+    let (senders, receivers): (Vec<u32>, Vec<u32>) = (record.senders(number).collect(), record.receivers(number).collect());
     // Senders wait only where no receiver does.
-    let waiting = match (senders(record, number), receivers(record, number)) {
-        (senders, _) if !senders.is_empty() => format!("waiting to send: {}", tasks(record, &senders)),
-        (_, receivers) if !receivers.is_empty() => format!("waiting to receive: {}", tasks(record, &receivers)),
-        _ => "nobody waits".to_string(),
+    let waiting = if !senders.is_empty() {
+        format!("waiting to send: {}", tasks(record, &senders))
+    } else if !receivers.is_empty() {
+        format!("waiting to receive: {}", tasks(record, &receivers))
+    } else {
+        "nobody waits".to_string()
     };
     format!("data queue {number}, {attribute}: {}; {waiting}", listed(&format!("{count} of {capacity} words"), &stored))
 }
 
-fn mailbox_in_words(record: &Record, number: usize, mailbox: &Mailbox) -> String {
+fn mailbox_in_words(record: &Record, number: u32) -> String {
+    let mailbox = &record.mailboxes[number as usize];
     let by_priority = u32::from(mailbox.attribute) >= TA_MPRI;
-    let message = |message: &usize| match by_priority {
-        true => format!("{message} (priority {})", record.messages.key[*message]),
+    let message = |message: u32| match by_priority {
+        true => format!("{message} (priority {})", record.messages.key[message as usize]),
         false => message.to_string(),
     };
-    let queued: Vec<String> = messages(record, number).iter().map(message).collect();
+    let queued: Vec<String> = record.messages(number).map(message).collect();
     let highest = if by_priority { format!(", highest priority {}", mailbox.highest) } else { String::new() };
     let attribute = words::attribute(mailbox.attribute.into());
-    let waiting = match waiters(record, number) {
-        nobody if nobody.is_empty() => "nobody waits".to_string(),
-        waiters => format!("waiting: {}", tasks(record, &waiters)),
-    };
+    let waiters: Vec<u32> = record.waiters(number).collect();
+    let waiting = if waiters.is_empty() { "nobody waits".to_string() } else { format!("waiting: {}", tasks(record, &waiters)) };
     let count = words::count(queued.len() as u64, "message");
     format!("mailbox {number}, {attribute}{highest}: {}; {waiting}", listed(&count, &queued))
 }
@@ -184,14 +156,10 @@ fn task_in_words(record: &Record, task: usize) -> Option<String> {
 /// A line for the counter, for each existing data queue and mailbox, and for each task that waits or is suspended.
 pub fn in_words(record: &Record) -> Vec<String> {
     let mut lines = vec![format!("counter {}", record.counter)];
-    for number in 1..=QUEUES {
-        let queue = &record.queues[number];
-        lines.extend((queue.defined != 0).then(|| queue_in_words(record, number, queue)));
-    }
-    for number in 1..=MAILBOXES {
-        let mailbox = &record.mailboxes[number];
-        lines.extend((mailbox.defined != 0).then(|| mailbox_in_words(record, number, mailbox)));
-    }
+    let queues = (1..=QUEUES).filter(|number| record.queues[*number].defined != 0);
+    lines.extend(queues.map(|number| queue_in_words(record, number as u32)));
+    let mailboxes = (1..=MAILBOXES).filter(|number| record.mailboxes[*number].defined != 0);
+    lines.extend(mailboxes.map(|number| mailbox_in_words(record, number as u32)));
     lines.extend((1..=TASKS).filter_map(|task| task_in_words(record, task)));
     lines
 }
@@ -199,24 +167,19 @@ pub fn in_words(record: &Record) -> Vec<String> {
 #[cfg(test)]
 mod tests {
     use super::*;
-    use linguastel::{Context, TA_TFIFO};
+    use linguastel::{Answer, Context, TA_TFIFO};
+
+    fn accepted(answers: &[Answer]) {
+        assert!(answers.iter().all(|answer| answer.is_ok() || answer.waits()), "{answers:?}");
+    }
 
     /// Task 1 waits to send to a full queue, task 2 at a mailbox; messages are queued in another.
     fn example() -> Record {
         let mut record = Record { counter: u32::MAX, ..Record::empty() };
-        for task in 1..=4 {
-            record.idefine_task(task, 5);
-        }
-        record.icre_dtq(1, TA_TFIFO, 2);
-        record.icre_mbx(1, TA_TFIFO, 0);
-        record.icre_mbx(2, TA_MPRI, 4);
-        record.ipsnd_dtq(1, 10);
-        record.ipsnd_dtq(1, 11);
-        record.tsnd_dtq(Context::task(1), 1, 12, 2);
-        record.rcv_mbx(Context::task(2), 1);
-        record.isnd_mbx(2, 7, 3);
-        record.isnd_mbx(2, 8, 1);
-        record.isus_tsk(3);
+        accepted(&[1, 2, 3, 4].map(|task| record.idefine_task(task, 5)));
+        accepted(&[record.icre_dtq(1, TA_TFIFO, 2), record.icre_mbx(1, TA_TFIFO, 0), record.icre_mbx(2, TA_MPRI, 4)]);
+        accepted(&[record.ipsnd_dtq(1, 10), record.ipsnd_dtq(1, 11), record.tsnd_dtq(Context::task(1), 1, 12, 2)]);
+        accepted(&[record.rcv_mbx(Context::task(2), 1), record.isnd_mbx(2, 7, 3), record.isnd_mbx(2, 8, 1), record.isus_tsk(3)]);
         record
     }
 
@@ -237,7 +200,7 @@ mod tests {
 
     fn ends(change: fn(&mut Record)) -> Vec<String> {
         let before = example();
-        let mut after = before;
+        let mut after = before.clone();
         change(&mut after);
         ended(&before, &after).iter().map(Ended::to_string).collect()
     }
@@ -259,31 +222,10 @@ mod tests {
     #[test]
     fn what_a_receiver_gets() {
         let mut before = Record::empty();
-        before.idefine_task(1, 5);
-        before.icre_dtq(1, TA_TFIFO, 2);
-        before.rcv_dtq(Context::task(1), 1);
-        let mut after = before;
-        after.ipsnd_dtq(1, 42);
+        accepted(&[before.idefine_task(1, 5), before.icre_dtq(1, TA_TFIFO, 2), before.rcv_dtq(Context::task(1), 1)]);
+        let mut after = before.clone();
+        accepted(&[after.ipsnd_dtq(1, 42)]);
         assert_eq!(in_words(&before)[1], "data queue 1, TA_TFIFO: 0 of 2 words; waiting to receive: task 1");
         assert_eq!(ended(&before, &after)[0].to_string(), "task 1: its wait to receive from data queue 1 ended with E_OK, word 42");
-    }
-
-    #[test]
-    fn words_from_the_ring_s_head_on() {
-        let mut record = example();
-        record.iprcv_dtq(1);
-        assert_eq!(stored_words(&record.queues[1]), [11, 12]);
-        // Around the end of the ring as well.
-        for word in 13..40 {
-            record.ifsnd_dtq(1, word);
-        }
-        assert_eq!(stored_words(&record.queues[1]), [38, 39]);
-    }
-
-    #[test]
-    fn a_chain_that_comes_round_is_not_followed_for_ever() {
-        let mut record = example();
-        record.waiting.link[1] = 1;
-        assert_eq!(senders(&record, 1).len(), TASKS);
     }
 }

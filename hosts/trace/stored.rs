@@ -1,6 +1,6 @@
 //! The stored traces of this folder, written again: two carriers as in hosts/rust/src/bin/demo.rs, with some more calls, and a short trace that differs.
 use crate::decode::SIZE;
-use linguastel::{number, Answer, Call, Context, Record, E_OK, NO_WAIT, TA_MPRI, TA_TFIFO};
+use linguastel::{number, Answer, Call, Context, Record, E_RLWAI, E_TMOUT, NO_WAIT, TA_MPRI, TA_TFIFO};
 
 // ── A trace in the making ──
 
@@ -20,10 +20,15 @@ impl Writer {
     }
 
     /// Makes the call and adds its record.
-    pub fn add(&mut self, call: Call) -> Answer {
-        let answer = self.record.call(call);
+    pub fn make(&mut self, call: Call) -> Answer {
+        let answer = self.record.host_call(call);
         self.bytes.extend(call.trace(answer).into_iter().flatten());
-        answer
+        answer.read()
+    }
+
+    /// The same, of whose answer nothing depends.
+    pub fn add(&mut self, call: Call) {
+        let _ = self.make(call);
     }
 
     /// The same, with one byte of the record changed afterwards.
@@ -35,7 +40,7 @@ impl Writer {
 
     /// The same for a record that isn't run: the kernel's record stays.
     pub fn add_not_run(&mut self, call: Call, place: usize, byte: u8) {
-        let before = self.record;
+        let before = self.record.clone();
         self.add_changed(call, place, byte);
         self.record = before;
     }
@@ -44,12 +49,12 @@ impl Writer {
         self.bytes.extend(bytes);
     }
 
-    fn handler(&mut self, number: u32, object: u32, value: u32) -> Answer {
-        self.task(0, number, object, value)
+    fn handler(&mut self, number: u32, object: u32, value: u32) {
+        self.task(0, number, object, value);
     }
 
-    fn task(&mut self, caller: u32, number: u32, object: u32, value: u32) -> Answer {
-        self.add(Call { value, ..Call::new(number, Context::task(caller), object) })
+    fn task(&mut self, caller: u32, number: u32, object: u32, value: u32) {
+        self.add(Call { value, ..Call::new(number, Context::task(caller), object) });
     }
 
     fn waits(&self, task: u32) -> bool {
@@ -123,17 +128,17 @@ impl Story {
     /// What is done to carrier A's queue or import task.
     fn happen(&mut self, step: usize) {
         match step {
-            1 => (0..A_TAKES).for_each(|_| _ = self.writer.task(A_READER, number::PRCV_DTQ, A_QUEUE, 0)),
+            1 => (0..A_TAKES).for_each(|_| self.writer.task(A_READER, number::PRCV_DTQ, A_QUEUE, 0)),
             5 => self.refusals(),
             6 => {
                 self.writer.handler(number::REL_WAI, A_IMPORT, 0);
                 self.report(0, 3, 1);
             }
             8 => {
-                (0..2).for_each(|_| _ = self.writer.task(OPERATOR, number::PRCV_MBX, REPORTS, 0));
+                (0..2).for_each(|_| self.writer.task(OPERATOR, number::PRCV_MBX, REPORTS, 0));
                 self.writer.task(OPERATOR, number::DEL_DTQ, A_QUEUE, 0);
             }
-            9 => _ = self.writer.add(Call { tmout: 1, ..Call::new(number::TRCV_MBX, Context::task(OPERATOR), REPORTS) }),
+            9 => self.writer.add(Call { tmout: 1, ..Call::new(number::TRCV_MBX, Context::task(OPERATOR), REPORTS) }),
             _ => (),
         }
     }
@@ -149,14 +154,14 @@ impl Story {
 
     /// The import task learns how its wait ended, and reports what isn't E_OK. Gives whether it got room.
     fn a_got_room(&mut self) -> bool {
-        let code = self.writer.task(A_IMPORT, number::FETCH, A_IMPORT, 0).code;
-        match code {
-            E_OK => self.element += 1,
-            linguastel::E_TMOUT => self.report(A_IMPORT, 1, 2),
-            linguastel::E_RLWAI => self.report(A_IMPORT, 2, 2),
+        let ended = self.writer.make(Call::new(number::FETCH, Context::task(A_IMPORT), A_IMPORT));
+        match ended {
+            Answer::Done(_) => self.element += 1,
+            Answer::Error(E_TMOUT) => self.report(A_IMPORT, 1, 2),
+            Answer::Error(E_RLWAI) => self.report(A_IMPORT, 2, 2),
             _ => (),
         }
-        code == E_OK
+        ended.is_ok()
     }
 
     /// Hands over a burst where there may be room, then waits with the first element that was refused.
@@ -166,11 +171,12 @@ impl Story {
         }
         if !self.a_waited || self.a_got_room() {
             let next = self.element;
-            let accepted = (next..next + A_BURST).take_while(|element| self.writer.task(A_IMPORT, number::PSND_DTQ, A_QUEUE, *element).is_ok());
+            let send = |value: u32| Call { value, ..Call::new(number::PSND_DTQ, Context::task(A_IMPORT), A_QUEUE) };
+            let accepted = (next..next + A_BURST).take_while(|element| self.writer.make(send(*element)).is_ok());
             self.element = next + accepted.count() as u32;
         }
         let send = Call { value: self.element, tmout: A_TMOUT, ..Call::new(number::TSND_DTQ, Context::task(A_IMPORT), A_QUEUE) };
-        let answer = self.writer.add(send);
+        let answer = self.writer.make(send);
         self.a_waited = answer.waits();
         self.a_stopped = !answer.waits();
     }
@@ -229,7 +235,7 @@ mod tests {
         let line = Line::of(&bytes, 0);
         assert!((60..=100).contains(&line.records) && line.differ == 0 && line.tail == 0, "{line}");
         let codes: Vec<i32> = steps(&bytes, 0).flat_map(|step| ended(&step.before, &step.after)).map(|ended| ended.code).collect();
-        for code in [E_OK, linguastel::E_TMOUT, linguastel::E_RLWAI, linguastel::E_DLT] {
+        for code in [linguastel::E_OK, E_TMOUT, E_RLWAI, linguastel::E_DLT] {
             assert!(codes.contains(&code), "{code} in {codes:?}");
         }
     }

@@ -1,12 +1,8 @@
 //! Calls and answers in words: the papers' names, and what document 01 says that each word of an answer is.
-use linguastel::{code_name, number, Answer, Call, Outcome, CALL_NAMES};
-use linguastel::{AT_MAILBOX, E_DLT, E_OK, E_RLWAI, E_TMOUT, FOREVER, NO_WAIT, RECEIVING, SENDING, TA_MPRI, TA_TFIFO, TA_TPRI};
+use linguastel::{call_name, code_name, number, Call, HostAnswer};
+use linguastel::{AT_MAILBOX, E_DLT, E_OK, E_RLWAI, E_TMOUT, NO_WAIT, RECEIVING, SENDING, TA_MPRI, TA_TFIFO, TA_TPRI, TMO_FEVR};
 
 // ── A call ──
-
-pub fn name(number: u32) -> &'static str {
-    CALL_NAMES.get(number as usize).copied().unwrap_or("unknown call")
-}
 
 /// The tick has no caller.
 pub fn caller(call: &Call) -> String {
@@ -29,7 +25,7 @@ pub fn attribute(attribute: u32) -> String {
 }
 
 fn tmout(ticks: i32) -> String {
-    if ticks == FOREVER {
+    if ticks == TMO_FEVR {
         "tmout -1 (for ever)".to_string()
     } else {
         format!("tmout {ticks}")
@@ -72,7 +68,7 @@ fn named(call: &Call) -> Vec<String> {
 
 /// The whole call in one line.
 pub fn call(call: &Call) -> String {
-    let parts = [caller(call), name(call.number).to_string(), arguments(call)];
+    let parts = [caller(call), call_name(call.number).to_string(), arguments(call)];
     parts.into_iter().filter(|part| !part.is_empty()).collect::<Vec<_>>().join(" ")
 }
 
@@ -110,9 +106,9 @@ fn looked_at(a: u32, b: u32) -> Option<String> {
 }
 
 /// What the words of an accepted call mean, and which of a, b and c that covers.
-fn meanings(number: u32, answer: &Answer) -> (Vec<String>, [bool; 3]) {
+fn meanings(number: u32, answer: &HostAnswer) -> (Vec<String>, [bool; 3]) {
     use number::*;
-    let Answer { a, b, c, .. } = *answer;
+    let HostAnswer { a, b, c, .. } = *answer;
     let one = |text: String| (vec![text], [true, false, false]);
     match number {
         TICK => one(format!("waits ended {a}")),
@@ -132,7 +128,7 @@ fn meanings(number: u32, answer: &Answer) -> (Vec<String>, [bool; 3]) {
     }
 }
 
-fn look_meanings(answer: &Answer) -> (Vec<String>, [bool; 3]) {
+fn look_meanings(answer: &HostAnswer) -> (Vec<String>, [bool; 3]) {
     let wait = looked_at(answer.a, answer.b);
     let known = wait.is_some();
     let mut texts: Vec<String> = wait.into_iter().collect();
@@ -146,15 +142,15 @@ fn accepted(number: u32, code: i32) -> bool {
 }
 
 /// An answer to the call of this number, a recorded one as well: words that such an answer doesn't have are shown by their letters.
-pub fn answer(number: u32, answer: &Answer) -> String {
-    let (mut parts, covered) = match answer.outcome() {
-        Outcome::Waits(place) => (vec![format!("waits, place {place}")], [false; 3]),
-        Outcome::Finished(ended) if accepted(number, ended) => {
+pub fn answer(number: u32, answer: &HostAnswer) -> String {
+    let (mut parts, covered) = match *answer {
+        HostAnswer { kind: 0, code: ended, .. } if accepted(number, ended) => {
             let (texts, covered) = meanings(number, answer);
             let stored = if number == number::FETCH { "stored " } else { "" };
             ([vec![format!("{stored}{}", code(ended))], texts].concat(), covered)
         }
-        Outcome::Finished(refused) => (vec![code(refused)], [false; 3]),
+        HostAnswer { kind: 0, code: refused, .. } => (vec![code(refused)], [false; 3]),
+        HostAnswer { place, .. } => (vec![format!("waits, place {place}")], [false; 3]),
     };
     for ((letter, word), covered) in [("a", answer.a), ("b", answer.b), ("c", answer.c)].into_iter().zip(covered) {
         if word != 0 && !covered {
@@ -165,8 +161,8 @@ pub fn answer(number: u32, answer: &Answer) -> String {
 }
 
 /// Each field in which two answers differ. Code and place are compared where the kinds are the same.
-pub fn differences(recorded: &Answer, replayed: &Answer) -> Vec<String> {
-    let kind = |answer: &Answer| if answer.waits() { "waits" } else { "finished" };
+pub fn differences(recorded: &HostAnswer, replayed: &HostAnswer) -> Vec<String> {
+    let kind = |answer: &HostAnswer| if answer.kind == 0 { "finished" } else { "waits" };
     let mut fields = Vec::new();
     if recorded.kind != replayed.kind {
         fields.push(format!("kind: recorded {}, replayed {}", kind(recorded), kind(replayed)));
@@ -233,8 +229,8 @@ mod tests {
         assert_eq!(call(&Call { number: 2, attribute: 7, ..FULL }), "task 1 cre_dtq data queue 2, attribute 7, capacity 3");
     }
 
-    fn finished(code: i32, a: u32, b: u32, c: u32) -> Answer {
-        Answer { kind: 0, code, place: 0, a, b, c }
+    fn finished(code: i32, a: u32, b: u32, c: u32) -> HostAnswer {
+        HostAnswer { kind: 0, code, place: 0, a, b, c }
     }
 
     #[test]
@@ -262,7 +258,7 @@ mod tests {
     /// A recorded answer may have any numbers.
     #[test]
     fn answers_that_no_kernel_gives() {
-        assert_eq!(answer(4, &Answer { kind: 1, code: 0, place: 3, a: 1, b: 0, c: 2 }), "waits, place 3, a 1, c 2");
+        assert_eq!(answer(4, &HostAnswer { kind: 1, code: linguastel::NO_CODE, place: 3, a: 1, b: 0, c: 2 }), "waits, place 3, a 1, c 2");
         assert_eq!(answer(9, &finished(-50, 4, 5, 0)), "E_TMOUT, a 4, b 5");
         assert_eq!(answer(5, &finished(1, 0, 0, 0)), "code 1, which the kernel doesn't have");
         assert_eq!(answer(22, &finished(0, 7, 2, 3)), "E_OK, a 7, b 2, c 3");
@@ -276,7 +272,7 @@ mod tests {
 
     #[test]
     fn differences_field_by_field() {
-        let waits = |place| Answer { kind: 1, place, ..Answer::default() };
+        let waits = |place| HostAnswer { kind: 1, code: linguastel::NO_CODE, place, ..HostAnswer::default() };
         assert_eq!(
             differences(&finished(0, 1, 0, 2), &finished(-50, 1, 3, 0)).join("; "),
             "code: recorded 0, replayed -50; b: recorded 0, replayed 3; c: recorded 2, replayed 0"

@@ -1,7 +1,15 @@
 //! Tests the boundary between a host in Rust and the library: the layout, bad numbers, records that aren't sound, what calls write, tables of calls,
 //! hosts/runs through the wrapper, the recording of calls, and the replay of a recording in blocks. hosts/c/boundary.c is the same for C. A null or
 //! misaligned pointer is no `&mut Record` and no slice; noise in all unused fields, and tables and blocks at the edge of a page, are left to the test
-//! in C. Every byte of a record, an answer, a replay or a line belongs to a field, so `==` compares all of them.
+//! in C. Every byte of a record, an answer, a replay or a line belongs to a field, so `==` compares all of them. The folder boundary has the tests of
+//! what the wrapper adds to the library: answers as an enum, names, and what a host asks of a record.
+#[path = "boundary/answers.rs"]
+mod answers;
+#[path = "boundary/names.rs"]
+mod names;
+#[path = "boundary/state.rs"]
+mod state;
+
 use linguastel::*;
 use std::array::from_fn;
 use std::collections::BTreeSet;
@@ -80,8 +88,8 @@ impl Noise {
         }
     }
 
-    fn answer(&mut self) -> Answer {
-        Answer { kind: self.word(), code: self.word() as i32, place: self.word(), a: self.word(), b: self.word(), c: self.word() }
+    fn answer(&mut self) -> HostAnswer {
+        HostAnswer { kind: self.word(), code: self.word() as i32, place: self.word(), a: self.word(), b: self.word(), c: self.word() }
     }
 
     /// At times a number of no call, or a context in which calls are refused.
@@ -128,28 +136,31 @@ fn noise() -> Noise {
 /// Task 1 waits at data queue 1 with an end tick, task 2 at mailbox 1 with none; task 3 is able; queue 2 is full and task 4 waits to send there.
 fn typical() -> Record {
     let mut record = Record::empty();
-    for task in 1..=4 {
-        record.idefine_task(task, 10 + task);
-    }
-    record.icre_dtq(1, TA_TFIFO, 2);
-    record.icre_dtq(2, TA_TPRI, 3);
-    record.icre_mbx(1, TA_TPRI, 0);
-    record.icre_mbx(2, TA_MPRI, 9);
-    for word in 40..=43 {
-        record.ifsnd_dtq(2, word);
-    }
-    record.isnd_mbx(2, 64, 9);
-    record.isnd_mbx(2, 33, 8);
-    record.tick();
-    record.trcv_dtq(Context::task(1), 1, 7);
-    record.rcv_mbx(Context::task(2), 1);
-    record.snd_dtq(Context::task(4), 2, 44);
+    accepted([1, 2, 3, 4].map(|task| record.idefine_task(task, 10 + task)));
+    accepted([record.icre_dtq(1, TA_TFIFO, 2), record.icre_dtq(2, TA_TPRI, 3)]);
+    accepted([record.icre_mbx(1, TA_TPRI, 0), record.icre_mbx(2, TA_MPRI, 9)]);
+    accepted([40, 41, 42, 43].map(|word| record.ifsnd_dtq(2, word)));
+    accepted([record.isnd_mbx(2, 64, 9), record.isnd_mbx(2, 33, 8), record.tick()]);
+    waits([record.trcv_dtq(Context::task(1), 1, 7), record.rcv_mbx(Context::task(2), 1), record.snd_dtq(Context::task(4), 2, 44)]);
     record
 }
 
+fn accepted<const N: usize>(answers: [Answer; N]) {
+    assert!(answers.iter().all(|answer| answer.is_ok()), "{answers:?}");
+}
+
+fn waits<const N: usize>(answers: [Answer; N]) {
+    assert!(answers.iter().all(|answer| answer.waits()), "{answers:?}");
+}
+
+/// The word a of an answer that is E_OK.
+fn word_a(answer: Answer) -> u32 {
+    answer.words().unwrap_or_else(|| panic!("{answer}")).a
+}
+
 /// Refused with this code: no place, no words.
-fn refusal(code: i32) -> Answer {
-    Answer { code, ..Answer::default() }
+fn refusal(code: i32) -> HostAnswer {
+    HostAnswer { code, ..HostAnswer::default() }
 }
 
 // ── A record or a replay that may only be read ──
@@ -185,26 +196,26 @@ impl Page {
     }
 
     /// A copy that may only be read, at the page's start or at its end; it is aligned there, since a type's size is a multiple of its alignment.
-    fn lend<T: Copy>(&self, content: &T, at_end: bool) -> *mut T {
+    fn lend<T: Clone>(&self, content: &T, at_end: bool) -> *mut T {
         let lent: *mut T = self.0.wrapping_byte_add(if at_end { PAGE - size_of::<T>() } else { 0 }).cast();
         self.allow(READ_AND_WRITE);
         // SAFETY: the place is aligned, in the page, and may be written.
-        unsafe { lent.write(*content) };
+        unsafe { lent.write(content.clone()) };
         self.allow(READ);
         lent
     }
 
     /// The call on a copy of the record. The kernel's promise is that it reads alone.
-    fn call(&self, record: &Record, at_end: bool, call: Call) -> Answer {
+    fn call(&self, record: &Record, at_end: bool, call: Call) -> HostAnswer {
         // SAFETY: a whole record is there, and this is the only reference to it.
-        unsafe { &mut *self.lend(record, at_end) }.call(call)
+        unsafe { &mut *self.lend(record, at_end) }.host_call(call)
     }
 
     /// The block on a copy of the replay, and what is there then. The promise is the same.
     fn feed(&self, replay: &Replay, block: &[u8]) -> (i32, Replay) {
         // SAFETY: a whole replay is there, and this is the only reference to it.
         let lent = unsafe { &mut *self.lend(replay, true) };
-        (lent.feed(block), *lent)
+        (lent.feed(block), lent.clone())
     }
 }
 
@@ -215,7 +226,7 @@ impl Drop for Page {
     }
 }
 
-fn assert_writes_nothing(page: &Page, record: &Record, call: Call, expected: Answer, what: &str) {
+fn assert_writes_nothing(page: &Page, record: &Record, call: Call, expected: HostAnswer, what: &str) {
     for at_end in [false, true] {
         assert_eq!(page.call(record, at_end, call), expected, "{what}");
     }
@@ -228,32 +239,32 @@ const MOST_CALLS: usize = TABLE + 2;
 const MOST_CELLS: usize = MOST_CALLS + 2;
 
 /// Noise, so that it shows which cells are written.
-fn cells() -> [Answer; MOST_CELLS] {
+fn cells() -> [HostAnswer; MOST_CELLS] {
     let mut noise = noise();
     from_fn(|_| noise.answer())
 }
 
 /// Nothing is done: the record and the cells keep every byte.
 fn assert_table_refused(record: &Record, calls: &[Call], cell_count: usize, code: i32, what: &str) {
-    let (mut lent, mut answers) = (*record, cells());
+    let (mut lent, mut answers) = (record.clone(), cells());
     assert_eq!(lent.table(calls, &mut answers[..cell_count]), code, "{what}: {} calls, {cell_count} cells", calls.len());
-    assert_eq!((lent, answers), (*record, cells()), "{what}: {} calls, {cell_count} cells", calls.len());
+    assert_eq!((&lent, answers), (record, cells()), "{what}: {} calls, {cell_count} cells", calls.len());
 }
 
 /// Number 0 is no tick in a table.
-fn make_singly(record: &mut Record, call: Call) -> Answer {
+fn make_singly(record: &mut Record, call: Call) -> HostAnswer {
     if call.number == number::TICK {
         refusal(E_PAR)
     } else {
-        record.call(call)
+        record.host_call(call)
     }
 }
 
 /// The record comes from the empty one: answers and record are those of the calls made singly, byte for byte. The other cells keep theirs.
-fn assert_table_made(record: &mut Record, calls: &[Call], cell_count: usize) -> Vec<Answer> {
-    let (mut twin, mut answers) = (*record, cells());
+fn assert_table_made(record: &mut Record, calls: &[Call], cell_count: usize) -> Vec<HostAnswer> {
+    let (mut twin, mut answers) = (record.clone(), cells());
     assert_eq!(record.table(calls, &mut answers[..cell_count]), E_OK, "{calls:?}");
-    let singly: Vec<Answer> = calls.iter().map(|call| make_singly(&mut twin, *call)).collect();
+    let singly: Vec<HostAnswer> = calls.iter().map(|call| make_singly(&mut twin, *call)).collect();
     let (made, kept) = answers.split_at(calls.len());
     assert_eq!(made, singly, "{calls:?}");
     assert_eq!(kept, &cells()[calls.len()..], "the cells past the last call");
@@ -278,9 +289,9 @@ fn neighbours() {
     }
     let mut memory = Memory { before: [0xA5; 256], record: typical(), after: [0xA5; 256] };
     for number in 0..=24 {
-        memory.record.call(Call { value: 5, attribute: 1, ..Call::new(number, Context::task(3), 3) });
+        let _ = memory.record.call(Call { value: 5, attribute: 1, ..Call::new(number, Context::task(3), 3) });
     }
-    memory.record.tick();
+    accepted([memory.record.tick()]);
     assert!(memory.record.is_sound());
     assert_eq!((memory.before, memory.after), ([0xA5; 256], [0xA5; 256]));
 }
@@ -291,19 +302,18 @@ const TOO_LARGE: [u32; 8] = [65, 254, 255, 256, 257, 300, 65537, u32::MAX];
 #[test]
 fn callers_and_objects_that_nobody_has() {
     let mut record = typical();
-    let before = record;
-    assert_eq!(record.ref_dtq(Context::task(33), 1), refusal(E_SYS));
+    assert_eq!(record.ref_dtq(Context::task(33), 1), Answer::Error(E_SYS));
     for number in TOO_LARGE {
-        assert_eq!(record.ref_dtq(Context::task(number), 1), refusal(E_SYS));
-        assert_eq!(record.ilook(number), refusal(E_ID));
-        assert_eq!(record.iref_dtq(number), refusal(E_ID));
-        assert_eq!(record.iref_mbx(number), refusal(E_ID));
-        assert_eq!(record.isnd_mbx(2, number, 1), refusal(E_PAR));
-        assert_eq!(record.icre_dtq(3, TA_TFIFO, number), refusal(E_PAR));
-        assert_eq!(record.icre_dtq(3, number, 1), refusal(E_PAR));
-        assert_eq!(record.idefine_task(5, number), refusal(E_PAR));
+        assert_eq!(record.ref_dtq(Context::task(number), 1), Answer::Error(E_SYS));
+        assert_eq!(record.ilook(number), Answer::Error(E_ID));
+        assert_eq!(record.iref_dtq(number), Answer::Error(E_ID));
+        assert_eq!(record.iref_mbx(number), Answer::Error(E_ID));
+        assert_eq!(record.isnd_mbx(2, number, 1), Answer::Error(E_PAR));
+        assert_eq!(record.icre_dtq(3, TA_TFIFO, number), Answer::Error(E_PAR));
+        assert_eq!(record.icre_dtq(3, number, 1), Answer::Error(E_PAR));
+        assert_eq!(record.idefine_task(5, number), Answer::Error(E_PAR));
     }
-    assert_eq!(record, before);
+    assert_eq!(record, typical());
 }
 
 #[test]
@@ -323,8 +333,8 @@ const YES: [u32; 6] = [1, 2, 256, 65536, 1 << 31, u32::MAX];
 fn locked_and_disabled_as_numbers() {
     let mut record = typical();
     for yes in YES {
-        assert_eq!(record.call(Call { locked: yes, ..Call::new(number::REF_DTQ, Context::task(3), 1) }), refusal(E_CTX));
-        assert_eq!(record.call(Call { disabled: yes, ..Call::new(number::RCV_DTQ, Context::task(3), 1) }), refusal(E_CTX));
+        assert_eq!(record.host_call(Call { locked: yes, ..Call::new(number::REF_DTQ, Context::task(3), 1) }), refusal(E_CTX));
+        assert_eq!(record.host_call(Call { disabled: yes, ..Call::new(number::RCV_DTQ, Context::task(3), 1) }), refusal(E_CTX));
     }
 }
 
@@ -397,17 +407,12 @@ fn damaged_flags() {
 /// The typical record with a data queue of capacity 0, a suspended task, and tasks 5 to 7 whose waits ended.
 fn various() -> Record {
     let mut record = typical();
-    record.icre_dtq(3, TA_TFIFO, 0);
-    record.icre_dtq(4, TA_TFIFO, 1);
-    record.isus_tsk(2);
+    accepted([record.icre_dtq(3, TA_TFIFO, 0), record.icre_dtq(4, TA_TFIFO, 1), record.isus_tsk(2)]);
     for task in 5..=7 {
-        record.idefine_task(task, 1);
-        record.trcv_dtq(Context::task(task), 4, if task == 6 { 1 } else { FOREVER });
+        accepted([record.idefine_task(task, 1)]);
+        waits([record.trcv_dtq(Context::task(task), 4, if task == 6 { 1 } else { TMO_FEVR })]);
     }
-    record.irel_wai(5);
-    record.tick();
-    record.tick();
-    record.del_dtq(Context::task(3), 4);
+    accepted([record.irel_wai(5), record.tick(), record.tick(), record.del_dtq(Context::task(3), 4)]);
     record
 }
 
@@ -460,8 +465,8 @@ fn calls_that_write_nothing() {
     let page = Page::new();
     for (code, call) in refused().into_iter().chain(reading()) {
         let mut record = various();
-        let answer = record.call(call);
-        assert_eq!((answer.outcome(), record), (Outcome::Finished(code), various()), "{call:?}");
+        let answer = record.host_call(call);
+        assert_eq!((answer.read().code(), &record), (Some(code), &various()), "{call:?}");
         assert_writes_nothing(&page, &record, call, answer, "a call that changes nothing");
     }
 }
@@ -480,9 +485,9 @@ fn bytes_of_the_stack() {
     for _ in 0..20_000 {
         let call = noise.call();
         paint_stack(0x1111_1111_1111_1111);
-        let answer = record.call(call);
+        let answer = record.host_call(call);
         paint_stack(0xeeee_eeee_eeee_eeee);
-        assert_eq!((twin.call(call), twin), (answer, record), "{call:?}");
+        assert_eq!((twin.host_call(call), &twin), (answer, &record), "{call:?}");
     }
 }
 
@@ -490,8 +495,9 @@ fn bytes_of_the_stack() {
 
 fn assert_task_view(record: &mut Record, number: u32) {
     let task = record.tasks[number as usize];
-    let (look, fetch) = (record.ilook(number), record.ifetch(number));
-    assert_eq!((look.a, look.b, look.c), (task.wait.into(), task.object.into(), u32::from(task.flags == DEFINED | SUSPENDED)));
+    let looked = Looked { tskwait: task.wait, wobjid: task.object.into(), suspended: task.flags == DEFINED | SUSPENDED };
+    assert_eq!(record.ilook(number).words().map(Words::looked), Some(looked));
+    let fetch = record.host_call(by_handler(number::FETCH, number));
     if task.wait == NO_WAIT {
         assert_eq!((fetch.code, fetch.a), (-i32::from(task.code), task.word));
     } else {
@@ -502,16 +508,16 @@ fn assert_task_view(record: &mut Record, number: u32) {
 fn assert_object_view(record: &mut Record, number: usize) {
     let (queue, mailbox) = (record.iref_dtq(number as u32), record.iref_mbx(number as u32));
     let heads = |chains: &Chains, first: usize| u32::from(chains.link[first + number]);
-    assert_eq!((queue.a, queue.b), (heads(&record.waiting, HEADS_OF_SENDERS), heads(&record.waiting, HEADS_OF_RECEIVERS)));
-    assert_eq!(queue.c, record.queues[number].ring.count.into());
-    assert_eq!((mailbox.a, mailbox.b), (heads(&record.waiting, HEADS_OF_WAITERS), heads(&record.messages, HEADS_OF_MESSAGES)));
+    let (stskid, rtskid) = (heads(&record.waiting, HEADS_OF_SENDERS), heads(&record.waiting, HEADS_OF_RECEIVERS));
+    assert_eq!(queue.words().map(Words::rdtq), Some(Rdtq { stskid, rtskid, sdtqcnt: record.queues[number].ring.count.into() }));
+    let (wtskid, pk_msg) = (heads(&record.waiting, HEADS_OF_WAITERS), heads(&record.messages, HEADS_OF_MESSAGES));
+    assert_eq!(mailbox.words().map(Words::rmbx), Some(Rmbx { wtskid, pk_msg }));
 }
 
 #[test]
 fn view() {
     let mut record = typical();
-    record.isus_tsk(2);
-    record.irel_wai(2);
+    accepted([record.isus_tsk(2), record.irel_wai(2)]);
     for number in 1..=4 {
         assert_task_view(&mut record, number);
         assert_eq!(u32::from(record.waiting.key[number as usize]), 10 + number);
@@ -532,9 +538,8 @@ fn view() {
 /// Task 1 waits from this counter with this tmout.
 fn waiting(counter: u32, tmout: i32) -> Record {
     let mut record = Record { counter, ..Record::empty() };
-    record.idefine_task(1, 5);
-    record.icre_dtq(1, TA_TFIFO, 0);
-    assert!(record.trcv_dtq(Context::task(1), 1, tmout).waits());
+    accepted([record.idefine_task(1, 5), record.icre_dtq(1, TA_TFIFO, 0)]);
+    waits([record.trcv_dtq(Context::task(1), 1, tmout)]);
     record
 }
 
@@ -544,10 +549,10 @@ fn time_outs() {
     for tmout in 1..=3 {
         let mut record = waiting(u32::MAX - 1, tmout);
         for _ in 0..tmout {
-            assert_eq!(record.tick().a, 0);
+            assert_eq!(word_a(record.tick()), 0);
         }
-        assert_eq!(record.tick().a, 1);
-        assert_eq!(record.ifetch(1).code, E_TMOUT);
+        assert_eq!(word_a(record.tick()), 1);
+        assert_eq!(record.ifetch(1), Answer::Error(E_TMOUT));
     }
 }
 
@@ -558,8 +563,8 @@ fn the_longest_time_out() {
     record.counter -= 1;
     assert!(!record.is_sound());
     record.counter += LONGEST_TMOUT as u32;
-    assert_eq!(record.tick().a, 0);
-    assert_eq!(record.tick().a, 1);
+    assert_eq!(word_a(record.tick()), 0);
+    assert_eq!(word_a(record.tick()), 1);
 }
 
 // ── What tables do ──
@@ -567,7 +572,7 @@ fn the_longest_time_out() {
 /// A record and messages 1, 2, ... to a mailbox in order of arrival: the answers are a 0, a 1, and so on.
 fn sends() -> (Record, [Call; MOST_CALLS]) {
     let mut record = Record::empty();
-    record.icre_mbx(3, TA_TFIFO, 0);
+    accepted([record.icre_mbx(3, TA_TFIFO, 0)]);
     (record, from_fn(|i| Call { value: i as u32 + 1, ..by_handler(number::SND_MBX, 3) }))
 }
 
@@ -578,13 +583,13 @@ fn tables_long_and_short() {
         for cell_count in 0..=MOST_CELLS {
             if call_count > TABLE || call_count > cell_count {
                 assert_table_refused(&start, &calls[..call_count], cell_count, E_PAR, "too long, or too few cells");
-                assert_table_refused(&marked(start), &calls[..call_count], cell_count, E_PAR, "the same with marks");
+                assert_table_refused(&marked(start.clone()), &calls[..call_count], cell_count, E_PAR, "the same with marks");
                 continue;
             }
-            let mut record = start;
+            let mut record = start.clone();
             let answers = assert_table_made(&mut record, &calls[..call_count], cell_count);
-            assert!(answers.iter().enumerate().all(|(i, answer)| *answer == Answer { a: i as u32, ..Answer::default() }));
-            assert_eq!(record.iref_mbx(3).b, u32::from(call_count > 0));
+            assert!(answers.iter().enumerate().all(|(i, answer)| *answer == HostAnswer { a: i as u32, ..HostAnswer::default() }));
+            assert_eq!(record.messages(3).count(), call_count);
         }
     }
 }
@@ -605,14 +610,17 @@ const NO_CALLS: [u32; 8] = [number::TICK, number::FETCH + 1, 255, 256, 257, 279,
 fn tables_with_numbers_of_no_call() {
     for number in NO_CALLS {
         let mut record = waiting(u32::MAX - 1, 1);
-        record.tick();
+        accepted([record.tick()]);
         let mut calls = [Call { number, caller: 77, locked: 1, object: 1, value: 1, ..Call::default() }; TABLE];
         calls[..TABLE / 2].fill(by_handler(number, 1));
         (calls[0], calls[TABLE - 1]) = (Call { value: 1, ..by_handler(number::DEFINE_TASK, 7) }, by_handler(number::SUS_TSK, 7));
         let answers = assert_table_made(&mut record, &calls, TABLE);
         assert!(answers[1..TABLE - 1].iter().all(|answer| *answer == refusal(E_PAR)), "{number}");
-        assert_eq!((record.counter, record.ilook(1).a, record.ilook(7).c), (u32::MAX, u32::from(RECEIVING), 1));
-        assert_eq!(record.tick().a, 1);
+        let [waiting, suspended] = [1, 7].map(|task| record.ilook(task).words().map(Words::looked));
+        assert_eq!(record.counter, u32::MAX);
+        assert_eq!(waiting, Some(Looked { tskwait: RECEIVING, wobjid: 1, suspended: false }));
+        assert_eq!(suspended, Some(Looked { tskwait: NO_WAIT, wobjid: 0, suspended: true }));
+        assert_eq!(word_a(record.tick()), 1);
     }
 }
 
@@ -627,7 +635,7 @@ fn tables_with_a_refused_call() {
             calls.insert(place, call);
             let mut answers = assert_table_made(&mut various(), &calls, MOST_CELLS);
             assert_eq!(answers.remove(place), refusal(code), "{call:?}");
-            assert_eq!(answers, [refusal(E_OK), refusal(E_OK), Answer { a: 70, ..Answer::default() }], "{call:?}");
+            assert_eq!(answers, [refusal(E_OK), refusal(E_OK), HostAnswer { a: 70, ..HostAnswer::default() }], "{call:?}");
         }
     }
 }
@@ -637,7 +645,8 @@ fn tables_with_a_refused_call() {
 fn a_wait_in_a_table() {
     let calls = [Call { tmout: 4, ..by_task(3, number::TRCV_DTQ, 3) }, by_task(3, number::REF_DTQ, 3), by_handler(number::REF_DTQ, 3)];
     let answers = assert_table_made(&mut various(), &calls, calls.len());
-    assert_eq!(answers, [Answer { kind: 1, ..Answer::default() }, refusal(E_SYS), Answer { b: 3, ..Answer::default() }]);
+    let waits = HostAnswer { kind: 1, code: NO_CODE, ..HostAnswer::default() };
+    assert_eq!(answers, [waits, refusal(E_SYS), HostAnswer { b: 3, ..HostAnswer::default() }]);
 }
 
 /// Marks in fields of which nothing is asked: the spare ones, and those of number 0.
@@ -667,10 +676,10 @@ fn tables_of_refused_calls() {
     for content in [various(), marked(various())] {
         for (first, count) in (0..refused().len()).flat_map(|first| (0..=TABLE).map(move |count| (first, count))) {
             let (codes, calls): (Vec<i32>, Vec<Call>) = refused().into_iter().cycle().skip(first).take(count).unzip();
-            let (mut record, mut answers) = (content, cells());
+            let (mut record, mut answers) = (content.clone(), cells());
             assert_eq!(record.table(&calls, &mut answers), E_OK);
             assert!(answers.iter().zip(codes).all(|(answer, code)| *answer == refusal(code)), "{calls:?}");
-            assert_eq!((record, &answers[count..]), (content, &cells()[count..]));
+            assert_eq!((&record, &answers[count..]), (&content, &cells()[count..]));
         }
     }
 }
@@ -689,19 +698,15 @@ fn random_tables() {
         let cell_count = calls.len() + noise.below((MOST_CELLS - calls.len() + 1) as u32) as usize;
         paint_stack([0x1111_1111_1111_1111, 0xeeee_eeee_eeee_eeee][i % 2]);
         for (call, answer) in calls.iter().zip(assert_table_made(&mut record, &calls, cell_count)) {
-            accepted.extend(answer.is_ok().then_some(call.number));
-            waits += u32::from(answer.waits());
+            accepted.extend(answer.read().is_ok().then_some(call.number));
+            waits += u32::from(answer.read().waits());
         }
-        record.tick();
+        let _ = record.tick();
     }
     assert!(accepted.into_iter().eq(number::DEFINE_TASK..=number::FETCH) && waits > 0, "a call of each number is accepted, and calls wait");
 }
 
 // ── The runs ──
-
-/// The calls in the order of their numbers.
-const NAMES: &str = "tick define_task cre_dtq del_dtq snd_dtq psnd_dtq tsnd_dtq fsnd_dtq rcv_dtq prcv_dtq trcv_dtq ref_dtq \
-    cre_mbx del_mbx snd_mbx rcv_mbx prcv_mbx trcv_mbx ref_mbx rel_wai sus_tsk rsm_tsk look fetch";
 
 fn call_by_name(record: &mut Record, call: Call) -> Answer {
     let by = Context { caller: call.caller, locked: call.locked != 0, disabled: call.disabled != 0 };
@@ -760,10 +765,10 @@ fn call_by_i_form(record: &mut Record, call: Call) -> Answer {
     }
 }
 
-fn answer_text(answer: Answer) -> String {
-    let outcome = match answer.outcome() {
-        Outcome::Finished(code) => code_name(code).to_string(),
-        Outcome::Waits(place) => format!("W{place}"),
+fn answer_text(answer: HostAnswer) -> String {
+    let outcome = match answer.read() {
+        Answer::Waits { place } => format!("W{place}"),
+        Answer::Done(_) | Answer::Error(_) => code_name(answer.code).to_string(),
     };
     format!("{outcome} {} {} {}", answer.a, answer.b, answer.c)
 }
@@ -771,7 +776,7 @@ fn answer_text(answer: Answer) -> String {
 fn call_of(fields: &[&str]) -> Call {
     let number = |field: usize| fields[field].parse().unwrap();
     Call {
-        number: NAMES.split(' ').position(|known| known == fields[3]).unwrap() as u32,
+        number: CALL_NAMES.iter().position(|known| *known == fields[3]).unwrap() as u32,
         caller: number(1),
         locked: u32::from(fields[2] == "L"),
         disabled: u32::from(fields[2] == "D"),
@@ -783,11 +788,11 @@ fn call_of(fields: &[&str]) -> Call {
 }
 
 fn play_call(page: &Page, record: &mut Record, way: Way, fields: &[&str]) {
-    let (call, before) = (call_of(fields), *record);
-    let answer = way(record, call);
-    assert_eq!(answer_text(answer), fields[8..].join(" "), "{call:?}");
+    let (call, before) = (call_of(fields), record.clone());
+    let answer = before.clone().host_call(call);
+    assert_eq!((answer_text(answer), way(record, call)), (fields[8..].join(" "), answer.read()), "{call:?}");
     let reads = matches!(call.number, number::REF_DTQ | number::REF_MBX | number::LOOK | number::FETCH);
-    if reads || answer.code != E_OK {
+    if reads || matches!(answer.read(), Answer::Error(_)) {
         assert_eq!(*record, before, "{call:?}");
         assert_writes_nothing(page, &before, call, answer, "a line of a run");
     }
@@ -807,7 +812,7 @@ type Way = fn(&mut Record, Call) -> Answer;
 fn play_runs(lines: &[Vec<&str>], mut play: impl FnMut(&mut Record, &[Vec<&str>])) {
     let mut start = Record::empty();
     for run in lines.chunk_by(|line, next| line[0] == next[0]) {
-        let mut record = start;
+        let mut record = start.clone();
         play(&mut record, run);
         if run[0][0] == "0" {
             start = record;
@@ -883,13 +888,13 @@ fn bytes_of_recorded_calls() {
             from_fn(|i| if [6, 9].contains(&i) { 0 } else { fields[i].parse().unwrap() });
         let (tmout, code) = (fields[6].parse().unwrap(), fields[9].parse().unwrap());
         let call = Call { number, caller, locked, disabled, object, value, tmout, attribute };
-        assert_eq!(call.trace(Answer { kind, code, place, a, b, c }), bytes_of(pair[1]), "{call:?}");
+        assert_eq!(call.trace(HostAnswer { kind, code, place, a, b, c }), bytes_of(pair[1]), "{call:?}");
     }
 }
 
 #[test]
 fn bytes_of_a_tick() {
-    for answer in [refusal(E_OK), Answer { a: 32, ..Answer::default() }, refusal(E_SYS)] {
+    for answer in [refusal(E_OK), HostAnswer { a: 32, ..HostAnswer::default() }, refusal(E_SYS)] {
         let bytes = Call::TICK.trace(answer).unwrap();
         assert!(bytes[..16] == [0; 16] && is_answer_in(&bytes, answer), "{answer:?}");
     }
@@ -900,7 +905,7 @@ fn bytes_of_a_tick() {
 #[test]
 fn bytes_of_a_table() {
     let calls = [by_handler(24, 0), Call { value: 5, ..by_handler(number::DEFINE_TASK, 1) }, Call::TICK, by_handler(number::LOOK, 1)];
-    let mut answers = [Answer::default(); 4];
+    let mut answers = [HostAnswer::default(); 4];
     let code = Record::empty().table(&calls, &mut answers);
     assert!(trace_table(&calls, &answers, code).eq([1, 3].map(|i| calls[i].trace(answers[i]).unwrap())));
     assert_eq!(trace_table(&calls, &answers, E_PAR).count() + trace_table(&calls, &answers, E_SYS).count(), 0);
@@ -925,8 +930,8 @@ fn call_in(bytes: &Bytes) -> Call {
     }
 }
 
-fn is_answer_in(bytes: &Bytes, answer: Answer) -> bool {
-    let code_or_place = if answer.waits() { answer.place } else { answer.code as u32 };
+fn is_answer_in(bytes: &Bytes, answer: HostAnswer) -> bool {
+    let code_or_place = if answer.read().waits() { answer.place } else { answer.code as u32 };
     let words = (word_at(bytes, 24), u32::from(bytes[28]), u32::from(bytes[29]) + 256 * u32::from(bytes[30]));
     let spare = [bytes[17], bytes[18], bytes[19], bytes[31]];
     (u32::from(bytes[16]), word_at(bytes, 20), words, spare) == (answer.kind, code_or_place, (answer.a, answer.b, answer.c), [0; 4])
@@ -937,7 +942,7 @@ fn random_trace(noise: &mut Noise, record: &mut Record, count: usize) -> Vec<Byt
     let (mut trace, mut answers) = (Vec::new(), cells());
     while trace.len() < count {
         let call = noise.wide_call();
-        trace.extend(call.trace(record.call(call)));
+        trace.extend(call.trace(record.host_call(call)));
         if noise.below(32) == 0 {
             let calls = noise.table();
             let cell_count = if noise.below(4) == 0 { calls.len() / 2 } else { calls.len() };
@@ -955,10 +960,10 @@ fn random_calls_recorded_and_replayed() {
     for bytes in random_trace(&mut noise(), &mut record, 20_000) {
         let call = call_in(&bytes);
         assert!(call.number <= number::LAST && bytes[2] < 4, "{bytes:?}");
-        let answer = twin.call(call);
+        let answer = twin.host_call(call);
         assert!(is_answer_in(&bytes, answer), "{bytes:?}: {answer:?}");
-        accepted.extend(answer.is_ok().then_some(call.number));
-        waits += u32::from(answer.waits());
+        accepted.extend(answer.read().is_ok().then_some(call.number));
+        waits += u32::from(answer.read().waits());
     }
     assert_eq!(record, twin);
     assert!(accepted.into_iter().eq(number::TICK..=number::LAST) && waits > 0, "a call of each number is accepted, and calls wait");
@@ -981,13 +986,13 @@ fn line_of(replay: &Replay) -> Line {
 }
 
 fn assert_ends(replay: &Replay, what: &str) {
-    let lent = *replay;
-    assert_eq!((lent.end(), lent), (line_of(replay), *replay), "{what}");
+    let lent = replay.clone();
+    assert_eq!((lent.end(), &lent), (line_of(replay), replay), "{what}");
 }
 
 /// The replay keeps every byte, and none is written.
 fn assert_block_refused(replay: &Replay, block: &[u8], code: i32, what: &str) {
-    assert_eq!(Page::new().feed(replay, block), (code, *replay), "{what}: {} bytes", block.len());
+    assert_eq!(Page::new().feed(replay, block), (code, replay.clone()), "{what}: {} bytes", block.len());
 }
 
 /// Nothing is said of the part's other bytes.
@@ -1003,7 +1008,7 @@ fn play_singly(replay: &mut Replay, bytes: &[u8]) {
     for one in whole.chunks(TRACE_SIZE) {
         let one: &Bytes = one.try_into().unwrap();
         let runs = u32::from(one[0]) <= number::LAST && one[2] <= 3 && one[16] <= 1 && [one[17], one[18], one[19], one[31]] == [0; 4];
-        let same = runs && is_answer_in(one, replay.kernel.call(call_in(one)));
+        let same = runs && is_answer_in(one, replay.kernel.host_call(call_in(one)));
         replay.records += 1;
         replay.differ += u64::from(!same);
         replay.first = if !same && replay.first == 0 { replay.records } else { replay.first };
@@ -1015,7 +1020,7 @@ fn play_singly(replay: &mut Replay, bytes: &[u8]) {
 #[test]
 fn a_new_replay() {
     let mut replay = Replay::empty();
-    assert_eq!((replay.kernel, replay.end()), (Record::empty(), zeros(E_OK)));
+    assert_eq!((&replay.kernel, replay.end()), (&Record::empty(), zeros(E_OK)));
     assert_eq!((replay.feed(&[]), replay.end()), (E_OK, zeros(E_OK)));
     assert_eq!(replay, Replay::empty());
 }
@@ -1067,11 +1072,11 @@ fn feed_all(noise: &mut Noise, replay: &mut Replay, mut bytes: &[u8], cut: Cut, 
     while !bytes.is_empty() {
         let (block, rest) = bytes.split_at(cut(noise, bytes.len()));
         if mark {
-            replay.kernel = marked_spares(replay.kernel, noise);
+            replay.kernel = marked_spares(replay.kernel.clone(), noise);
             replay.part[replay.length as usize..].fill_with(|| noise.byte());
         }
         if noise.below(8) == 0 {
-            let before = *replay;
+            let before = replay.clone();
             assert_eq!(replay.feed(&[]), E_OK);
             assert_same(replay, &before, "a block of no bytes");
         }
@@ -1091,8 +1096,8 @@ fn assert_all_cuts(noise: &mut Noise, bytes: &[u8], what: &str) -> Line {
     for (cut, mark) in CUTS.into_iter().flat_map(|cut| [(cut, false), (cut, true)]) {
         let mut replay = Replay::empty();
         feed_all(noise, &mut replay, bytes, cut, mark);
-        let kernel = if mark { twin.kernel } else { replay.kernel };
-        assert_same(&Replay { kernel, ..replay }, &twin, what);
+        let kernel = if mark { twin.kernel.clone() } else { replay.kernel.clone() };
+        assert_same(&Replay { kernel, ..replay.clone() }, &twin, what);
         assert_ends(&replay, what);
     }
     twin.end()
@@ -1143,8 +1148,8 @@ fn assert_replay_refused(replay: &Replay, what: &str) {
     for (block, size) in all_blocks() {
         assert_block_refused(replay, &block[..size], E_SYS, what);
     }
-    let lent = *replay;
-    assert_eq!((lent.end(), lent), (zeros(E_SYS), *replay), "{what}");
+    let lent = replay.clone();
+    assert_eq!((lent.end(), &lent), (zeros(E_SYS), replay), "{what}");
 }
 
 /// Each rule by itself, with the nearest numbers that it refuses. In 32 bits, 4294967296 and 4294967297 would be 0 and 1. The last rows have the most
@@ -1184,7 +1189,7 @@ fn replays_with_numbers_that_are_let_through() {
     for (numbers, block, size) in of_five.into_iter().chain(others).flat_map(|numbers| all_blocks().map(move |(block, size)| (numbers, block, size)))
     {
         let mut replay = Replay { part: block[..TRACE_SIZE].try_into().unwrap(), ..with_numbers(numbers) };
-        let mut twin = replay;
+        let mut twin = replay.clone();
         assert_ends(&replay, "before the block");
         play_singly(&mut twin, &[&block[..numbers[3] as usize], &block[..size]].concat());
         assert_eq!(replay.feed(&block[..size]), E_OK, "{numbers:?}: {size} bytes");

@@ -1,12 +1,13 @@
 //! A host in Rust: the same story as hosts/c/demo.c, call for call, the same output and, with a file's name, the same trace.
-use linguastel::{code_name, number, trace_table, Answer, Call, Context, Outcome, Record, E_NOEXS, E_OK, NO_WAIT, TABLE, TA_TFIFO};
+use linguastel::{code_name, library_fits, number, trace_table, Answer, Call, Context, HostAnswer, Record, Words};
+use linguastel::{E_OK, NO_WAIT, TABLE, TA_TFIFO, TSK_NONE};
 
 /// A host uses the kernel in five lines.
 fn five_lines() -> Answer {
-    let mut record = Record::empty();
-    record.idefine_task(1, 5);
-    record.icre_dtq(1, TA_TFIFO, 8);
-    record.snd_dtq(Context::task(1), 1, 42);
+    let mut record = Record::EMPTY;
+    assert!(record.idefine_task(1, 5).is_ok());
+    assert!(record.icre_dtq(1, TA_TFIFO, 8).is_ok());
+    assert!(record.snd_dtq(Context::task(1), 1, 42).is_ok());
     record.iprcv_dtq(1)
 }
 
@@ -58,13 +59,14 @@ fn elements_of_a() -> u64 {
 
 // A trace starts at the empty record.
 fn start() -> Host {
-    let (record, trace, b_received) = (Record::empty(), Vec::new(), Vec::new());
+    let (record, trace, b_received) = (Record::EMPTY, Vec::new(), Vec::new());
     let mut host = Host { record, trace, element: 1, a_waits: false, a_stopped: false, a_received: 0, b_received };
     for task in A_IMPORT..=OPERATOR {
-        host.make(Call { value: PRIORITY, ..Call::new(number::DEFINE_TASK, Context::HANDLER, task) });
+        assert!(host.make(Call { value: PRIORITY, ..Call::new(number::DEFINE_TASK, Context::HANDLER, task) }).is_ok());
     }
     for queue in A_QUEUE..=B_QUEUE {
-        host.make(Call { attribute: TA_TFIFO, value: CAPACITY, ..Call::new(number::CRE_DTQ, Context::HANDLER, queue) });
+        let create = Call { attribute: TA_TFIFO, value: CAPACITY, ..Call::new(number::CRE_DTQ, Context::HANDLER, queue) };
+        assert!(host.make(create).is_ok());
     }
     host
 }
@@ -72,15 +74,14 @@ fn start() -> Host {
 // ── What is printed of an answer ──
 
 fn say(what: &str, answer: Answer) {
-    match answer.outcome() {
-        Outcome::Waits(place) => println!("      {what}: waits, place {place}"),
-        Outcome::Finished(code) if answer.a != 0 => println!("      {what}: {}, {}", code_name(code), answer.a),
-        Outcome::Finished(code) => println!("      {what}: {}", code_name(code)),
+    match answer {
+        Answer::Done(Words { a, .. }) if a != 0 => println!("      {what}: {}, {a}", code_name(E_OK)),
+        Answer::Done(_) | Answer::Error(_) | Answer::Waits { .. } => println!("      {what}: {answer}"),
     }
 }
 
 // The table's code; where its calls were made, how many were accepted, and how many were refused like the first one that was.
-fn say_table(who: &str, code: i32, answers: &[Answer], accepted: usize) {
+fn say_table(who: &str, code: i32, answers: &[HostAnswer], accepted: usize) {
     print!("      {who}, table of {} psnd_dtq: {}", answers.len(), code_name(code));
     if code == E_OK {
         print!(", {accepted} accepted");
@@ -94,23 +95,23 @@ fn say_table(who: &str, code: i32, answers: &[Answer], accepted: usize) {
 
 // A queue's stored words, a # for each, and whether a sender waits.
 fn queue_text(reference: Answer) -> String {
-    if reference.code == E_NOEXS {
+    let Some(queue) = reference.words().map(Words::rdtq) else {
         return format!("{:23}", "deleted");
-    }
-    let bar: String = (0..CAPACITY).map(|place| if place < reference.c { '#' } else { '.' }).collect();
-    format!("{bar} {:14}", if reference.a != 0 { "a sender waits" } else { "" })
+    };
+    let bar: String = (0..CAPACITY).map(|place| if place < queue.sdtqcnt { '#' } else { '.' }).collect();
+    format!("{bar} {:14}", if queue.stskid == TSK_NONE { "" } else { "a sender waits" })
 }
 
 impl Host {
     // ── Calls: all of them pass here, so that each is recorded ──
 
     fn make(&mut self, call: Call) -> Answer {
-        let answer = self.record.call(call);
+        let answer = self.record.host_call(call);
         self.trace.extend(call.trace(answer).into_iter().flatten());
-        answer
+        answer.read()
     }
 
-    fn make_table(&mut self, calls: &[Call], answers: &mut [Answer]) -> i32 {
+    fn make_table(&mut self, calls: &[Call], answers: &mut [HostAnswer]) -> i32 {
         let code = self.record.table(calls, answers);
         self.trace.extend(trace_table(calls, answers, code).flatten());
         code
@@ -122,9 +123,9 @@ impl Host {
     fn hand_over(&mut self, who: &str, task: u32, queue: u32, words: &[u32]) -> usize {
         let send = |word: &u32| Call { value: *word, ..Call::new(number::PSND_DTQ, Context::task(task), queue) };
         let calls: Vec<Call> = words.iter().map(send).collect();
-        let mut answers = vec![Answer::default(); words.len()];
+        let mut answers = vec![HostAnswer::default(); words.len()];
         let code = self.make_table(&calls, &mut answers);
-        let accepted = answers.iter().take_while(|answer| code == E_OK && answer.is_ok()).count();
+        let accepted = answers.iter().take_while(|answer| code == E_OK && answer.read().is_ok()).count();
         say_table(who, code, &answers, accepted);
         accepted
     }
@@ -136,9 +137,8 @@ impl Host {
     }
 
     fn b_reads(&mut self) {
-        let answer = self.make(Call::new(number::PRCV_DTQ, Context::task(B_READER), B_QUEUE));
-        if answer.is_ok() {
-            self.b_received.push(answer.a);
+        if let Answer::Done(words) = self.make(Call::new(number::PRCV_DTQ, Context::task(B_READER), B_QUEUE)) {
+            self.b_received.push(words.a);
         }
     }
 
@@ -168,6 +168,11 @@ impl Host {
         ended.is_ok()
     }
 
+    fn waits(&mut self, task: u32) -> bool {
+        let looked = self.make(Call::new(number::LOOK, Context::HANDLER, task)).words().map(Words::looked);
+        looked.is_some_and(|looked| looked.tskwait != NO_WAIT)
+    }
+
     fn a_hands_over(&mut self) {
         let elements: Vec<u32> = (self.element..self.element + A_BURST).collect();
         self.element += self.hand_over("A's import task", A_IMPORT, A_QUEUE, &elements) as u32;
@@ -175,7 +180,7 @@ impl Host {
 
     // Hands over a burst where there may be room, then waits with the first element that was refused.
     fn a_imports(&mut self) {
-        if self.a_stopped || self.make(Call::new(number::LOOK, Context::HANDLER, A_IMPORT)).a != u32::from(NO_WAIT) {
+        if self.a_stopped || self.waits(A_IMPORT) {
             return;
         }
         if !self.a_waits || self.a_got_room() {
@@ -196,7 +201,7 @@ impl Host {
 
     fn tick(&mut self) {
         let ticked = self.make(Call::TICK);
-        if ticked.a != 0 {
+        if ticked.words().is_some_and(|words| words.a != 0) {
             say("tick, waits that it ended", ticked);
         }
     }
@@ -216,7 +221,8 @@ impl Host {
 }
 
 fn main() {
-    println!("In five lines: a task sent 42, a handler received {}.\n", five_lines().a);
+    assert!(library_fits());
+    println!("In five lines: a task sent 42, a handler received {}.\n", five_lines().words().map_or(0, |words| words.a));
 
     let mut host = start();
     println!("Carrier A's file has {A_LINES} lines. Each but the first stands for {A_COPIES} of the line before it: {} elements.", elements_of_a());

@@ -1,6 +1,6 @@
 //! Makes calls drawn at random, always the same ones, and records them: `recorder FILE` writes the trace. The calls and the bytes are those of
 //! hosts/c/recorder.c.
-use linguastel::{number, trace_table, Answer, Call, Record, E_OK, TABLE, TRACE_SIZE};
+use linguastel::{number, trace_table, Call, HostAnswer, Record, E_OK, TABLE, TRACE_SIZE};
 use std::process::ExitCode;
 
 // So many calls are recorded at least. Two more than a table may have are drawn for it at most; it is refused then.
@@ -69,19 +69,13 @@ struct Host {
 
 impl Host {
     fn make_call(&mut self, call: Call) {
-        let answer = self.record.call(call);
+        let answer = self.record.host_call(call);
         self.trace.extend(call.trace(answer).into_iter().flatten());
         self.made += 1;
     }
 
-    fn make_tick(&mut self) {
-        let answer = self.record.tick();
-        self.trace.extend(Call::TICK.trace(answer).into_iter().flatten());
-        self.made += 1;
-    }
-
     fn make_table(&mut self, calls: &[Call]) {
-        let mut answers = vec![Answer::default(); calls.len()];
+        let mut answers = vec![HostAnswer::default(); calls.len()];
         let code = self.record.table(calls, &mut answers);
         self.trace.extend(trace_table(calls, &answers, code).flatten());
         self.made += if code == E_OK { calls.len() } else { 0 };
@@ -90,14 +84,14 @@ impl Host {
 
 fn main() -> ExitCode {
     let mut noise = Noise(2_463_534_242);
-    let mut host = Host { record: Record::empty(), trace: Vec::new(), made: 0 };
+    let mut host = Host { record: Record::EMPTY, trace: Vec::new(), made: 0 };
     while host.trace.len() < ENOUGH * TRACE_SIZE {
         match noise.below(16) {
             0 => {
                 let calls: Vec<Call> = (0..noise.below(MOST_CALLS + 1)).map(|_| noise.call()).collect();
                 host.make_table(&calls);
             }
-            1 => host.make_tick(),
+            1 => host.make_call(Call::TICK),
             _ => host.make_call(noise.call()),
         }
     }

@@ -49,7 +49,7 @@ fn main() -> ExitCode {
         eprintln!("replay FILE [SEED]: called wrongly");
         return ExitCode::from(2);
     };
-    let mut replay = Replay::empty();
+    let mut replay = Replay::EMPTY;
     let fed = File::open(&file).and_then(|opened| feed(&mut replay, opened, Noise(seed)));
     let line = replay.end();
     match fed {
