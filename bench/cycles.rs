@@ -13,11 +13,10 @@ pub enum Expected {
 pub use Expected::{Code, Place};
 
 impl Expected {
-    pub fn is(self, answer: Answer) -> bool {
-        match (answer.outcome(), self) {
-            (Outcome::Finished(code), Code(wanted)) => code == wanted,
-            (Outcome::Waits(place), Place(wanted)) => place == wanted,
-            _ => false,
+    pub fn is(self, answer: HostAnswer) -> bool {
+        match self {
+            Code(code) => answer.read().code() == Some(code),
+            Place(place) => answer.read() == Answer::Waits { place },
         }
     }
 }

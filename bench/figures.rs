@@ -11,7 +11,7 @@ mod same;
 mod tables;
 
 use cycles::{situations, Cycle, Situation};
-use linguastel::{Answer, Call};
+use linguastel::{Answer, Call, HostAnswer};
 use programs::{Baseline, Entry, Program, Untested};
 use std::hint::black_box;
 use std::io::Write;
@@ -30,7 +30,7 @@ struct Ready<P: Program> {
 fn ready<P: Program>(situation: &Situation, cycle: &Cycle) -> Ready<P> {
     let mut program = P::empty(situation.counter);
     for call in situation.calls.iter().chain(&cycle.before) {
-        program.play(&P::call_of(call));
+        let _ = program.play(&P::call_of(call));
     }
     Ready { program, calls: cycle.calls.iter().map(|(call, _)| P::call_of(call)).collect(), undefined: cycle.undefined }
 }
@@ -42,7 +42,7 @@ fn rounds<P: Program>(ready: &mut Ready<P>, count: u64) {
             ready.program.undefine(ready.undefined);
         }
         for call in &ready.calls {
-            black_box(ready.program.play(black_box(call)));
+            let _ = black_box(ready.program.play(black_box(call)));
         }
     }
 }
@@ -61,7 +61,7 @@ fn check<P: Program>(situation: &Situation, cycle: &Cycle) -> Result<(), String>
     let mut program = P::empty(situation.counter);
     for call in situation.calls.iter().chain(&cycle.before) {
         let answer = program.play(&P::call_of(call));
-        if answer.kind == 0 && answer.code != 0 {
+        if matches!(answer.read(), Answer::Error(_)) {
             return Err(format!("{}, {}: {} refuses {call:?}: {answer:?}", situation.name, cycle.name, P::NAME));
         }
     }
@@ -344,10 +344,10 @@ fn laps(record: &str, row: &str, how: u8, count: u64) -> Option<()> {
 }
 
 // What stands for an answer where the host takes a task away.
-const NO_WORDS: Answer = Answer { kind: 0, code: 0, place: 0, a: 0, b: 0, c: 0 };
+const NO_WORDS: HostAnswer = HostAnswer { kind: 0, code: 0, place: 0, a: 0, b: 0, c: 0 };
 
 // As `with_answer` of crates/laps.
-fn with_answer(sum: u32, answer: Answer) -> u32 {
+fn with_answer(sum: u32, answer: HostAnswer) -> u32 {
     let first = if answer.kind == 0 { answer.code.unsigned_abs() } else { answer.place ^ 65536 };
     [first, answer.a, answer.b, answer.c].iter().fold(sum, |sum, word| sum.rotate_left(5) ^ word)
 }

@@ -10,10 +10,10 @@ use linguastel::*;
 // ── Answers ──
 
 // What a call does, or the code that refuses it. Nothing is written before the last test that may refuse.
-type Outcome = Result<Answer, i32>;
+type Outcome = Result<HostAnswer, i32>;
 
-fn finished(code: i32, a: u32, b: u32, c: u32) -> Answer {
-    Answer { kind: 0, code, place: 0, a, b, c }
+fn finished(code: i32, a: u32, b: u32, c: u32) -> HostAnswer {
+    HostAnswer { kind: 0, code, place: 0, a, b, c }
 }
 
 fn done() -> Outcome {
@@ -281,7 +281,7 @@ fn join(record: &mut Record, head: usize, me: u32, ranked: bool, wait: Wait) -> 
     let Wait { kind, object, sending, .. } = wait;
     let flags = record.tasks[i].flags;
     record.tasks[i] = Task { word: 0, end, sending, wait: kind, object, timed: timed.into(), code: 0, flags };
-    Ok(Answer { kind: 1, code: E_OK, place, a: 0, b: 0, c: 0 })
+    Ok(HostAnswer { kind: 1, code: NO_CODE, place, a: 0, b: 0, c: 0 })
 }
 
 // A task leaves the chain of its wait, which ends with this code and no word.
@@ -402,11 +402,11 @@ fn on_queue(record: &mut Record, call: &Call) -> Outcome {
     demand(record.queues[q].defined != 0, E_NOEXS)?;
     match call.number {
         DEL_DTQ => delete_queue(record, q),
-        SND_DTQ => send(record, q, call.value, wait_for(call, FOREVER)),
+        SND_DTQ => send(record, q, call.value, wait_for(call, TMO_FEVR)),
         PSND_DTQ => send(record, q, call.value, Otherwise::Refuse),
         TSND_DTQ => send(record, q, call.value, wait_for(call, call.tmout)),
         FSND_DTQ => send(record, q, call.value, Otherwise::Replace),
-        RCV_DTQ => receive(record, q, wait_for(call, FOREVER)),
+        RCV_DTQ => receive(record, q, wait_for(call, TMO_FEVR)),
         PRCV_DTQ => receive(record, q, Otherwise::Refuse),
         TRCV_DTQ => receive(record, q, wait_for(call, call.tmout)),
         _ => refer_queue(record, q),
@@ -484,7 +484,7 @@ fn on_mailbox(record: &mut Record, call: &Call) -> Outcome {
     match call.number {
         DEL_MBX => delete_mailbox(record, b),
         SND_MBX => send_message(record, b, call),
-        RCV_MBX => receive_message(record, b, wait_for(call, FOREVER)),
+        RCV_MBX => receive_message(record, b, wait_for(call, TMO_FEVR)),
         PRCV_MBX => receive_message(record, b, Otherwise::Refuse),
         TRCV_MBX => receive_message(record, b, wait_for(call, call.tmout)),
         _ => refer_mailbox(record, b),
@@ -538,7 +538,7 @@ fn on_task(record: &mut Record, call: &Call) -> Outcome {
 }
 
 // An end is found by equality: less-than would go wrong where the counter wraps.
-fn tick(record: &mut Record) -> Answer {
+fn tick(record: &mut Record) -> HostAnswer {
     record.counter = record.counter.wrapping_add(1);
     let mut ended = 0;
     for number in 1..TASKS + 1 {
@@ -578,7 +578,7 @@ fn within(object: u32, limit: usize) -> Result<usize, i32> {
 }
 
 fn tmout_in_range(call: &Call) -> Result<(), i32> {
-    demand(!is_in(call.number, WITH_TMOUT) || (FOREVER..=LONGEST_TMOUT).contains(&call.tmout), E_PAR)
+    demand(!is_in(call.number, WITH_TMOUT) || (TMO_FEVR..=LONGEST_TMOUT).contains(&call.tmout), E_PAR)
 }
 
 fn caller_may_call(record: &Record, caller: u32) -> bool {
@@ -610,7 +610,7 @@ fn perform(record: &mut Record, call: &Call) -> Outcome {
 }
 
 #[inline(always)]
-fn step(record: &mut Record, call: &Call) -> Answer {
+fn step(record: &mut Record, call: &Call) -> HostAnswer {
     if call.number == TICK {
         return tick(record);
     }
@@ -622,7 +622,7 @@ fn step(record: &mut Record, call: &Call) -> Answer {
 
 /// One call; number 0 is the tick. A refused call changes no field.
 #[inline(never)]
-pub fn call(record: &mut Record, call: Call) -> Answer {
+pub fn call(record: &mut Record, call: Call) -> HostAnswer {
     if call.number > FETCH {
         return finished(E_PAR, 0, 0, 0);
     }
@@ -634,7 +634,7 @@ pub fn call(record: &mut Record, call: Call) -> Answer {
 
 /// The same without the test of the record, which the caller knows to be sound.
 #[inline(never)]
-pub fn call_untested(record: &mut Record, call: Call) -> Answer {
+pub fn call_untested(record: &mut Record, call: Call) -> HostAnswer {
     if call.number > FETCH {
         return finished(E_PAR, 0, 0, 0);
     }

@@ -1,12 +1,15 @@
 //! What bench/limits runs. Every call, accepted in each of its ways and refused, is played on the proved library and on the kernel in Rust: on a typical
 //! record, on a full one, and where the most is to be done. But for the tick it is played in a table of 64 calls too, and where it can be recorded, in a
 //! block that ends its record, the replay's part being the beginning. For each it prints the copies that one call makes with memcpy and memmove, and the
-//! stack that it takes. It fails where the library is above a limit, where the two answer differently, and where a table or a block doesn't do what the
-//! single call does.
+//! stack that it takes. It fails where the library is above a limit, where a call is above what bench/footprint.txt states of it, where the two answer
+//! differently, and where a table or a block doesn't do what the single call does.
 #[allow(dead_code)]
 mod cycles;
+#[allow(dead_code)]
+mod footprint;
 
 use cycles::*;
+use footprint::{row_of, stated};
 use linguastel::number::*;
 use linguastel::*;
 use std::ffi::c_void;
@@ -34,9 +37,10 @@ struct Copied {
 }
 
 extern "C" {
-    fn linguastel_call(record: &mut Record, call: Call) -> Answer;
-    fn linguastel_table(record: &mut Record, calls: *const Call, call_count: usize, answers: *mut Answer, answer_count: usize) -> i32;
-    fn linguastel_replay_feed(replay: &mut Replay, block: *const u8, size: usize) -> i32;
+    fn linguastel_unguarded_call(record: &mut Record, call: Call) -> HostAnswer;
+    fn linguastel_unguarded_table(record: &mut Record, calls: *const Call, call_count: usize, answers: *mut HostAnswer, answer_count: usize) -> i32;
+    fn linguastel_unguarded_replay_feed(replay: &mut Replay, block: *const u8, size: usize) -> i32;
+    fn linguastel_unguarded_replay_end(replay: &Replay) -> linguastel::Line;
     // Of copies.c and stack.c.
     fn copied_so_far() -> Copied;
     fn stack_written(play: extern "C" fn(*mut c_void), job: *mut c_void) -> usize;
@@ -98,15 +102,15 @@ fn frames_around(mut does_nothing: impl Job) -> usize {
 
 // ── One call ──
 
-type Entry = unsafe extern "C" fn(&mut Record, Call) -> Answer;
+type Entry = unsafe extern "C" fn(&mut Record, Call) -> HostAnswer;
 
-extern "C" fn rust_call(record: &mut Record, call: Call) -> Answer {
+extern "C" fn rust_call(record: &mut Record, call: Call) -> HostAnswer {
     baseline::call(record, call)
 }
 
-const NO_ANSWER: Answer = Answer { kind: 2, code: 0, place: 0, a: 0, b: 0, c: 0 };
+const NO_ANSWER: HostAnswer = HostAnswer { kind: 2, code: 0, place: 0, a: 0, b: 0, c: 0 };
 
-extern "C" fn no_call(_: &mut Record, _: Call) -> Answer {
+extern "C" fn no_call(_: &mut Record, _: Call) -> HostAnswer {
     NO_ANSWER
 }
 
@@ -114,7 +118,7 @@ struct Single {
     entry: Entry,
     record: Record,
     call: Call,
-    answer: Answer,
+    answer: HostAnswer,
 }
 
 impl Job for Single {
@@ -125,10 +129,10 @@ impl Job for Single {
 }
 
 fn single(entry: Entry, record: &Record, call: Call) -> Single {
-    Single { entry, record: *record, call, answer: NO_ANSWER }
+    Single { entry, record: record.clone(), call, answer: NO_ANSWER }
 }
 
-fn measured(entry: Entry, record: &Record, call: Call) -> (Figures, Answer, Record) {
+fn measured(entry: Entry, record: &Record, call: Call) -> (Figures, HostAnswer, Record) {
     static FRAMES: OnceLock<usize> = OnceLock::new();
     let frames = FRAMES.get_or_init(|| frames_around(single(no_call, &Record::empty(), A_TICK)));
     let mut job = single(entry, record, call);
@@ -138,9 +142,9 @@ fn measured(entry: Entry, record: &Record, call: Call) -> (Figures, Answer, Reco
 
 // ── One call in a table ──
 
-type TableEntry = unsafe extern "C" fn(&mut Record, *const Call, usize, *mut Answer, usize) -> i32;
+type TableEntry = unsafe extern "C" fn(&mut Record, *const Call, usize, *mut HostAnswer, usize) -> i32;
 
-extern "C" fn no_table(_: &mut Record, _: *const Call, _: usize, _: *mut Answer, _: usize) -> i32 {
+extern "C" fn no_table(_: &mut Record, _: *const Call, _: usize, _: *mut HostAnswer, _: usize) -> i32 {
     E_OK
 }
 
@@ -148,7 +152,7 @@ struct Table {
     entry: TableEntry,
     record: Record,
     calls: [Call; TABLE],
-    answers: [Answer; TABLE],
+    answers: [HostAnswer; TABLE],
     code: i32,
 }
 
@@ -161,7 +165,7 @@ impl Job for Table {
 
 // Refused wherever it stands, so that the record is left as it is for the other calls of a table.
 const UNKNOWN: Call = Call { number: FETCH + 1, ..A_TICK };
-const REFUSED_AS_UNKNOWN: Answer = Answer { kind: 0, code: E_PAR, place: 0, a: 0, b: 0, c: 0 };
+const REFUSED_AS_UNKNOWN: HostAnswer = HostAnswer { kind: 0, code: E_PAR, place: 0, a: 0, b: 0, c: 0 };
 
 // The place of the measured call, with others before it and behind it.
 const MIDDLE: usize = TABLE / 2;
@@ -169,13 +173,13 @@ const MIDDLE: usize = TABLE / 2;
 fn table(entry: TableEntry, record: &Record, call: Call) -> Table {
     let mut calls = [UNKNOWN; TABLE];
     calls[MIDDLE] = call;
-    Table { entry, record: *record, calls, answers: [NO_ANSWER; TABLE], code: E_OK }
+    Table { entry, record: record.clone(), calls, answers: [NO_ANSWER; TABLE], code: E_OK }
 }
 
 fn measured_table(record: &Record, call: Call) -> (Figures, Table) {
     static FRAMES: OnceLock<usize> = OnceLock::new();
     let frames = FRAMES.get_or_init(|| frames_around(table(no_table, &Record::empty(), UNKNOWN)));
-    let mut job = table(linguastel_table, record, call);
+    let mut job = table(linguastel_unguarded_table, record, call);
     let figures = raw(&mut job);
     (Figures { stack: figures.stack - frames, ..figures }, job)
 }
@@ -206,16 +210,49 @@ impl Job for Block {
 }
 
 fn block(entry: BlockEntry, kernel: &Record, record: [u8; TRACE_SIZE]) -> Block {
-    let replay = Replay { kernel: *kernel, part: record, length: BEGINNING as u64, ..Replay::empty() };
+    let replay = Replay { kernel: kernel.clone(), part: record, length: BEGINNING as u64, ..Replay::empty() };
     Block { entry, replay, block: std::array::from_fn(|i| record[BEGINNING + i]), code: E_OK }
 }
 
 fn measured_block(kernel: &Record, record: [u8; TRACE_SIZE]) -> (Figures, Block) {
     static FRAMES: OnceLock<usize> = OnceLock::new();
     let frames = FRAMES.get_or_init(|| frames_around(block(no_block, &Record::empty(), [0; TRACE_SIZE])));
-    let mut job = block(linguastel_replay_feed, kernel, record);
+    let mut job = block(linguastel_unguarded_replay_feed, kernel, record);
     let figures = raw(&mut job);
     (Figures { stack: figures.stack - frames, ..figures }, job)
+}
+
+// ── The end of a recording ──
+
+type EndEntry = unsafe extern "C" fn(&Replay) -> linguastel::Line;
+
+const NO_LINE: linguastel::Line = linguastel::Line { records: 0, differ: 0, first: 0, tail: 0, code: E_OK, spare: 0 };
+
+extern "C" fn no_end(_: &Replay) -> linguastel::Line {
+    NO_LINE
+}
+
+struct End {
+    entry: EndEntry,
+    replay: Replay,
+    line: linguastel::Line,
+}
+
+impl Job for End {
+    fn play(&mut self) {
+        // SAFETY: the function takes any replay and only reads it.
+        self.line = unsafe { (self.entry)(&self.replay) };
+    }
+}
+
+fn end(entry: EndEntry, kernel: &Record) -> End {
+    End { entry, replay: Replay { kernel: kernel.clone(), ..Replay::empty() }, line: NO_LINE }
+}
+
+fn measured_end(kernel: &Record) -> Figures {
+    let frames = frames_around(end(no_end, &Record::empty()));
+    let figures = raw(&mut end(linguastel_unguarded_replay_end, kernel));
+    Figures { stack: figures.stack - frames, ..figures }
 }
 
 // A record to play on, and what a table takes there that has unknown calls alone.
@@ -227,7 +264,7 @@ struct Ground {
 
 impl Ground {
     fn new(record: &Record) -> Ground {
-        Ground { record: *record, sound: record.is_sound(), unknown: measured_table(record, UNKNOWN).0 }
+        Ground { record: record.clone(), sound: record.is_sound(), unknown: measured_table(record, UNKNOWN).0 }
     }
 
     // What one call copies: what it adds in the place of an unknown one, and the share of an unknown one in its table. The stack is the whole table's.
@@ -238,7 +275,7 @@ impl Ground {
 
     // The call in a table, beside its answer and record when it is made singly; None where they differ. Where the record isn't sound, the table as a
     // whole is refused and no cell is written.
-    fn in_a_table(&self, call: Call, answer: Answer, after: &Record) -> Option<Figures> {
+    fn in_a_table(&self, call: Call, answer: HostAnswer, after: &Record) -> Option<Figures> {
         let (figures, table) = measured_table(&self.record, call);
         let mut answers = [if self.sound { REFUSED_AS_UNKNOWN } else { NO_ANSWER }; TABLE];
         if self.sound {
@@ -260,6 +297,8 @@ impl Ground {
 
 struct Line {
     name: String,
+    // The call.
+    number: u32,
     played: usize,
     library: Figures,
     // In a table; none for a tick, which can't stand in one.
@@ -270,13 +309,13 @@ struct Line {
 }
 
 impl Line {
-    fn new(name: String) -> Line {
-        Line { name, played: 0, library: Figures::default(), table: None, block: None, rust: Figures::default() }
+    fn new(name: String, number: u32) -> Line {
+        Line { name, number, played: 0, library: Figures::default(), table: None, block: None, rust: Figures::default() }
     }
 
     // The line keeps the most of all calls that were played for it.
-    fn play(&mut self, ground: &Ground, call: Call) -> Result<Answer, String> {
-        let (library, answer, after) = measured(linguastel_call, &ground.record, call);
+    fn play(&mut self, ground: &Ground, call: Call) -> Result<HostAnswer, String> {
+        let (library, answer, after) = measured(linguastel_unguarded_call, &ground.record, call);
         let (rust, other, rust_after) = measured(rust_call, &ground.record, call);
         if answer != other || after != rust_after {
             let records = if after == rust_after { "equal" } else { "not equal" };
@@ -299,7 +338,7 @@ impl Line {
     }
 
     fn print(&self) {
-        let Line { name, played, library, table, block, rust } = self;
+        let Line { name, played, library, table, block, rust, .. } = self;
         let table = table.map_or(vec!["-".into(); 3], |table| cells([table.whole, table.copied, table.stack]));
         let block = block.map_or(vec!["-".into(); 2], |block| cells([block.copied, block.stack]));
         let library = cells([*played, library.whole, library.copied, library.stack]);
@@ -356,7 +395,7 @@ fn waits(by_priority: bool) -> &'static str {
     }
 }
 
-fn way_at_queue(before: &Record, number: u32, q: usize, answer: Answer) -> &'static str {
+fn way_at_queue(before: &Record, number: u32, q: usize, answer: HostAnswer) -> &'static str {
     let (sender, receiver) = (before.waiting.link[HEADS_OF_SENDERS + q] != 0, before.waiting.link[HEADS_OF_RECEIVERS + q] != 0);
     let Queue { ring, attribute, .. } = before.queues[q];
     let sends = matches!(number, SND_DTQ..=FSND_DTQ);
@@ -364,7 +403,7 @@ fn way_at_queue(before: &Record, number: u32, q: usize, answer: Answer) -> &'sta
         DEL_DTQ if sender => "senders wait",
         DEL_DTQ if receiver => "receivers wait",
         DEL_DTQ => "nobody waits",
-        _ if answer.waits() => waits(sends && attribute == TA_TPRI as u8),
+        _ if answer.read().waits() => waits(sends && attribute == TA_TPRI as u8),
         _ if sends && receiver => "to a receiver",
         _ if sends && ring.count < ring.capacity => "stored",
         _ if sends => "replaces the oldest",
@@ -374,7 +413,7 @@ fn way_at_queue(before: &Record, number: u32, q: usize, answer: Answer) -> &'sta
     }
 }
 
-fn way_at_mailbox(before: &Record, number: u32, b: usize, answer: Answer) -> &'static str {
+fn way_at_mailbox(before: &Record, number: u32, b: usize, answer: HostAnswer) -> &'static str {
     let (waiter, message) = (before.waiting.link[HEADS_OF_WAITERS + b] != 0, before.messages.link[HEADS_OF_MESSAGES + b] != 0);
     let attribute = u32::from(before.mailboxes[b].attribute);
     match number {
@@ -384,17 +423,17 @@ fn way_at_mailbox(before: &Record, number: u32, b: usize, answer: Answer) -> &'s
         SND_MBX if waiter => "to a waiter",
         SND_MBX if attribute & TA_MPRI != 0 => "queued by priority",
         SND_MBX => "queued",
-        _ if answer.waits() => waits(attribute & TA_TPRI != 0),
+        _ if answer.read().waits() => waits(attribute & TA_TPRI != 0),
         _ => "a message",
     }
 }
 
-fn way(before: &Record, call: Call, answer: Answer) -> &'static str {
+fn way(before: &Record, call: Call, answer: HostAnswer) -> &'static str {
     let object = call.object as usize;
     match call.number {
         // A code that fetch gives is that of a wait, unless there is nothing to fetch.
         FETCH if matches!(answer.code, E_OK | E_RLWAI | E_TMOUT | E_DLT) => "accepted",
-        _ if answer.kind == 0 && answer.code != E_OK => REFUSED,
+        _ if matches!(answer.read(), Answer::Error(_)) => REFUSED,
         TICK if answer.a == 0 => "ends nothing",
         TICK => "ends a wait",
         DEL_DTQ..=TRCV_DTQ => way_at_queue(before, call.number, object, answer),
@@ -428,7 +467,7 @@ fn words(number: u32) -> (&'static [u32], &'static [u32]) {
 
 fn tmouts(number: u32) -> &'static [i32] {
     match number {
-        TSND_DTQ | TRCV_DTQ | TRCV_MBX => &[-2, FOREVER, 0, 1, 100],
+        TSND_DTQ | TRCV_DTQ | TRCV_MBX => &[-2, TMO_FEVR, TMO_POL, 1, 100],
         _ => &[0],
     }
 }
@@ -453,13 +492,12 @@ fn all_calls(name: &str, records: &[Record]) -> Result<Vec<Line>, String> {
     let mut all = Vec::new();
     for number in TICK..=FETCH + 1 {
         let ways: Vec<&str> = ways(number).iter().copied().chain([REFUSED]).collect();
-        let mut lines: Vec<Line> = ways.iter().map(|way| Line::new(format!("{name}: {}, {way}", call_name(number)))).collect();
+        let mut lines: Vec<Line> = ways.iter().map(|way| Line::new(format!("{name}: {}, {way}", call_name(number)), number)).collect();
         for ground in &grounds {
             for call in calls_of(&ground.record, number) {
-                let mut after = ground.record;
-                let taken = way(&ground.record, call, after.call(call));
+                let taken = way(&ground.record, call, ground.record.clone().host_call(call));
                 let place = ways.iter().position(|way| *way == taken).ok_or(format!("{name}: {call:?}: '{taken}' is no way of this call"))?;
-                lines[place].play(ground, call)?;
+                let _ = lines[place].play(ground, call)?;
             }
         }
         all.extend(lines);
@@ -501,17 +539,17 @@ fn shortest_wait(task: u32, queue: u32) -> Call {
 fn typical_records() -> Vec<Record> {
     let record = situation("typical");
     let more = [create_queue(7, 0, 0), send(6, 7, 1), create_mailbox(5, 1, 0), by(0, SUS_TSK, 3), shortest_wait(7, 6), A_TICK];
-    vec![record, made(record, &more), not_sound(record)]
+    vec![record.clone(), made(record.clone(), &more), not_sound(record)]
 }
 
 // The full record; one with a task, a queue, a mailbox and a message less, and a suspended task; one with a mailbox in order of arrival, and a wait that
 // the next tick ends.
 fn full_records() -> Vec<Record> {
     let record = situation("full");
-    let mut less = made(record, &[by(32, DEL_DTQ, 16), by(32, DEL_MBX, 16), by(0, PRCV_MBX, 1), by(0, SUS_TSK, 3)]);
+    let mut less = made(record.clone(), &[by(32, DEL_DTQ, 16), by(32, DEL_MBX, 16), by(0, PRCV_MBX, 1), by(0, SUS_TSK, 3)]);
     less.tasks[31].flags = 0;
     let other = [by(32, DEL_MBX, 16), create_mailbox(16, 0, 0), by(0, PRCV_MBX, 1), shortest_wait(31, 16), A_TICK];
-    vec![record, less, made(record, &other), not_sound(record)]
+    vec![record.clone(), less, made(record.clone(), &other), not_sound(record)]
 }
 
 // ── Where the most is to be done ──
@@ -551,7 +589,7 @@ fn messages_queued(count: u32) -> Record {
 }
 
 fn one(name: String, record: Record, call: Call, expected: Expected) -> Result<Line, String> {
-    let mut line = Line::new(name);
+    let mut line = Line::new(name, call.number);
     let answer = line.play(&Ground::new(&record), call)?;
     if expected.is(answer) {
         Ok(line)
@@ -565,7 +603,7 @@ fn longest() -> Result<Vec<Line>, String> {
     let mut lines = Vec::new();
     for crowd in crowds() {
         let name = crowd.name;
-        assert_eq!(crowd.waiting(32).call(A_TICK).a, 32);
+        assert_eq!(crowd.waiting(32).host_call(A_TICK).a, 32);
         lines.push(one(format!("most: tick ends 32 waits, {name}"), crowd.waiting(32), A_TICK, ok)?);
         lines.push(one(format!("most: rel_wai of the last of 32 {name}"), crowd.waiting(32), by(0, REL_WAI, 1), ok)?);
         lines.push(one(format!("most: {} with 31 {name}", call_name(crowd.delete)), crowd.waiting(31), by(32, crowd.delete, 1), ok)?);
@@ -629,6 +667,46 @@ impl Most {
     }
 }
 
+// ── The stated figures ──
+
+// The most of all lines, in the way that `of` names.
+fn most_of<'a>(lines: impl Iterator<Item = &'a Line>, of: fn(&Line) -> Figures) -> Figures {
+    lines.map(of).fold(Figures::default(), Figures::most)
+}
+
+// What is measured for each row of bench/footprint.txt.
+fn measured_rows(lines: &[Line]) -> Vec<(String, Figures)> {
+    let name = |number: u32| CALL_NAMES.get(number as usize).map_or(footprint::UNKNOWN_NUMBER.into(), |name| row_of(name));
+    let of_call = |number: u32| (name(number), most_of(lines.iter().filter(|line| line.number == number), |line| line.library));
+    let mut rows: Vec<(String, Figures)> = (TICK..=FETCH + 1).map(of_call).collect();
+    let unsound = [not_sound(situation("typical")), not_sound(situation("full"))];
+    let refused = unsound.iter().flat_map(|record| (TICK..=FETCH).map(move |number| measured(linguastel_unguarded_call, record, by(0, number, 1)).0));
+    rows.push((footprint::NOT_SOUND.into(), refused.fold(Figures::default(), Figures::most)));
+    let records = typical_records().into_iter().chain(full_records());
+    let ends = records.map(|record| measured_end(&record)).fold(Figures::default(), Figures::most);
+    rows.push((footprint::IN_TABLE.into(), most_of(lines.iter(), in_table)));
+    rows.push((footprint::IN_BLOCK.into(), most_of(lines.iter(), in_block)));
+    rows.push((footprint::REPLAY_END.into(), ends));
+    rows
+}
+
+fn above_stated(lines: &[Line]) -> Result<Vec<String>, String> {
+    let mut faults = Vec::new();
+    for (name, figures) in measured_rows(lines) {
+        let (stack, copied) = (stated(&name, footprint::STACK)? as usize, stated(&name, footprint::COPIED)? as usize);
+        println!("{name}: {} bytes of stack, {stack} stated; {} bytes copied, {copied} stated", figures.stack, figures.copied);
+        if figures.stack > stack || figures.copied > copied {
+            faults.push(format!("{name}: above what bench/footprint.txt states"));
+        }
+    }
+    for (name, size, align) in [("a record", size_of::<Record>(), align_of::<Record>()), ("a replay", size_of::<Replay>(), align_of::<Replay>())] {
+        if (stated(name, 0)?, stated(name, 1)?) != (size as u64, align as u64) {
+            faults.push(format!("{name}: {size} bytes, a multiple of {align}; not what bench/footprint.txt states"));
+        }
+    }
+    Ok(faults)
+}
+
 fn run() -> Result<(), String> {
     if !copies_are_counted() {
         return Err("copies aren't counted: bench/copies.c is not what was linked".into());
@@ -639,7 +717,8 @@ fn run() -> Result<(), String> {
     print_row("the most of all calls that were played", &columns);
     lines.iter().for_each(Line::print);
     ALL_MOST.iter().for_each(|most| most.print(&lines));
-    let faults: Vec<String> = ALL_MOST.iter().flat_map(|most| most.above(&lines)).collect();
+    let mut faults: Vec<String> = ALL_MOST.iter().flat_map(|most| most.above(&lines)).collect();
+    faults.extend(above_stated(&lines)?);
     if faults.is_empty() {
         Ok(())
     } else {

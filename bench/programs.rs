@@ -1,5 +1,5 @@
 //! The programs that bench/figures measures, under one trait.
-use linguastel::{Answer, Call, Record};
+use linguastel::{Call, HostAnswer, Record};
 use std::marker::PhantomData;
 
 pub trait Program: Sized {
@@ -8,7 +8,7 @@ pub trait Program: Sized {
     type Call;
     fn call_of(call: &Call) -> Self::Call;
     fn empty(counter: u32) -> Self;
-    fn play(&mut self, call: &Self::Call) -> Answer;
+    fn play(&mut self, call: &Self::Call) -> HostAnswer;
     fn sound(&self) -> bool;
     // The host takes a task away that doesn't wait.
     fn undefine(&mut self, task: usize);
@@ -18,19 +18,19 @@ pub trait Program: Sized {
 
 pub trait OnRecord {
     const NAME: &'static str;
-    fn call(record: &mut Record, call: Call) -> Answer;
+    fn call(record: &mut Record, call: Call) -> HostAnswer;
     fn sound(record: &Record) -> bool;
 }
 
-/// The proved library, through its entry `linguastel_call`; whether a record is sound is told by a call too.
+/// The proved library, through its entry `linguastel_unguarded_call`; whether a record is sound is told by a call too.
 pub struct Library;
 
 impl OnRecord for Library {
     const NAME: &'static str = "entry";
 
     #[inline(always)]
-    fn call(record: &mut Record, call: Call) -> Answer {
-        record.call(call)
+    fn call(record: &mut Record, call: Call) -> HostAnswer {
+        record.host_call(call)
     }
 
     #[inline(always)]
@@ -46,7 +46,7 @@ impl OnRecord for Rust {
     const NAME: &'static str = "baseline";
 
     #[inline(always)]
-    fn call(record: &mut Record, call: Call) -> Answer {
+    fn call(record: &mut Record, call: Call) -> HostAnswer {
         baseline::call(record, call)
     }
 
@@ -63,7 +63,7 @@ impl OnRecord for RustUntested {
     const NAME: &'static str = "untested";
 
     #[inline(always)]
-    fn call(record: &mut Record, call: Call) -> Answer {
+    fn call(record: &mut Record, call: Call) -> HostAnswer {
         baseline::call_untested(record, call)
     }
 
@@ -96,7 +96,7 @@ impl<K: OnRecord> Program for Lent<K> {
     }
 
     #[inline(always)]
-    fn play(&mut self, call: &Call) -> Answer {
+    fn play(&mut self, call: &Call) -> HostAnswer {
         K::call(&mut self.record, *call)
     }
 
@@ -135,10 +135,10 @@ impl Program for Second {
     }
 
     #[inline(always)]
-    fn play(&mut self, call: &second::Call) -> Answer {
+    fn play(&mut self, call: &second::Call) -> HostAnswer {
         match self.state.play(call, &mut self.reached) {
-            second::Answer::Finished { code, a, b, c } => Answer { kind: 0, code, place: 0, a, b, c },
-            second::Answer::Waits { place } => Answer { kind: 1, code: 0, place, a: 0, b: 0, c: 0 },
+            second::Answer::Finished { code, a, b, c } => HostAnswer { kind: 0, code, place: 0, a, b, c },
+            second::Answer::Waits { place } => HostAnswer { kind: 1, code: linguastel::NO_CODE, place, a: 0, b: 0, c: 0 },
         }
     }
 

@@ -6,7 +6,7 @@
 mod traces;
 
 use linguastel::number::FETCH;
-use linguastel::{Answer, Call, Record};
+use linguastel::{Call, HostAnswer, Record, NO_CODE};
 use std::fs::File;
 use std::io::{self, BufWriter, Read};
 use std::process::{exit, Command, Stdio};
@@ -25,7 +25,7 @@ fn word(bytes: &[u8; RECORD_BYTES], at: usize) -> u32 {
 
 // The call and the recorded answer, if the record is to be run.
 #[inline(always)]
-fn decode(bytes: &[u8; RECORD_BYTES]) -> Option<(Call, Answer)> {
+fn decode(bytes: &[u8; RECORD_BYTES]) -> Option<(Call, HostAnswer)> {
     let [number, caller, flags, object] = [bytes[0], bytes[1], bytes[2], bytes[3]].map(u32::from);
     let kind = u32::from(bytes[16]);
     if number > FETCH || flags > 3 || kind > 1 || bytes[17..20] != [0; 3] || bytes[31] != 0 {
@@ -34,9 +34,9 @@ fn decode(bytes: &[u8; RECORD_BYTES]) -> Option<(Call, Answer)> {
     let (value, tmout, attribute) = (word(bytes, 4), word(bytes, 8) as i32, word(bytes, 12));
     let call = Call { number, caller, locked: flags & 1, disabled: flags & 2, object, value, tmout, attribute };
     let outcome = word(bytes, 20);
-    let (code, place) = if kind == 0 { (outcome as i32, 0) } else { (0, outcome) };
+    let (code, place) = if kind == 0 { (outcome as i32, 0) } else { (NO_CODE, outcome) };
     let (a, b, c) = (word(bytes, 24), bytes[28].into(), u16::from_le_bytes([bytes[29], bytes[30]]).into());
-    Some((call, Answer { kind, code, place, a, b, c }))
+    Some((call, HostAnswer { kind, code, place, a, b, c }))
 }
 
 struct Replay {
@@ -48,7 +48,7 @@ struct Replay {
 
 impl Replay {
     #[inline(always)]
-    fn take(&mut self, bytes: &[u8; RECORD_BYTES], kernel: impl Fn(&mut Record, Call) -> Answer) {
+    fn take(&mut self, bytes: &[u8; RECORD_BYTES], kernel: impl Fn(&mut Record, Call) -> HostAnswer) {
         self.records += 1;
         let same = match decode(bytes) {
             Some((call, recorded)) => kernel(&mut self.record, call) == recorded,
@@ -63,7 +63,7 @@ impl Replay {
     }
 }
 
-fn play(kernel: impl Fn(&mut Record, Call) -> Answer) -> io::Result<()> {
+fn play(kernel: impl Fn(&mut Record, Call) -> HostAnswer) -> io::Result<()> {
     let mut replay = Replay { record: Record::empty(), records: 0, differ: 0, first: 0 };
     let mut input = io::stdin().lock();
     let mut block = vec![0; BLOCK];

@@ -152,23 +152,23 @@ pub struct Counts {
     pub accepted: [u64; 24],
 }
 
-fn refused(call: Call, answer: Answer) -> bool {
-    call.number > FETCH || answer.kind == 0 && answer.code != E_OK && call.number != FETCH
+fn refused(call: Call, answer: HostAnswer) -> bool {
+    call.number > FETCH || matches!(answer.read(), Answer::Error(_)) && call.number != FETCH
 }
 
 // A call that changes nothing leaves every cell as it was, whatever it held.
-fn changes_nothing(call: Call, answer: Answer) -> bool {
+fn changes_nothing(call: Call, answer: HostAnswer) -> bool {
     refused(call, answer) || matches!(call.number, REF_DTQ | REF_MBX | LOOK | FETCH)
 }
 
 // A damaged record that is still sound may hold something in cells that say nothing. The two clear different ones of those, so after a change only
 // the answers are compared.
 fn same_on_damaged(record: &Record, call: Call, random: &mut Random, counts: &mut Counts) -> bool {
-    let mut damaged = *record;
+    let mut damaged = record.clone();
     damage(&mut damaged, random);
-    let (mut proved, mut hand) = (damaged, damaged);
+    let (mut proved, mut hand) = (damaged.clone(), damaged.clone());
     let is_sound = proved.is_sound();
-    let answer = proved.call(call);
+    let answer = proved.host_call(call);
     counts.damaged += 1;
     counts.unsound += u64::from(!is_sound);
     let other = baseline::call(&mut hand, call);
@@ -184,14 +184,14 @@ pub fn play(calls: u64, seed: u64) -> Result<Counts, String> {
         let run = Run::new(&mut random);
         let mut proved = Record::empty();
         proved.counter = random.pick(&[0, 1000, u32::MAX - 5]);
-        let mut hand = proved;
+        let mut hand = proved.clone();
         for _ in 0..2000.min(calls - counts.calls) {
             let call = run.call(&mut random, &proved);
             if random.one_in(4) && !same_on_damaged(&proved, call, &mut random, &mut counts) {
                 return Err(format!("damaged record, {call:?}"));
             }
-            let before = proved;
-            let (answer, other) = (proved.call(call), baseline::call(&mut hand, call));
+            let before = proved.clone();
+            let (answer, other) = (proved.host_call(call), baseline::call(&mut hand, call));
             if answer != other || proved != hand || baseline::sound(&hand) != proved.is_sound() {
                 return Err(format!("{call:?}: {answer:?}, baseline {other:?}; records equal: {}\nbefore: {before:?}", proved == hand));
             }

@@ -1,11 +1,11 @@
 //! Tables of calls, for bench/figures. Every cycle that can stand in a table is repeated as often as a table has room. The same calls are played as a
-//! table by `linguastel_table`, singly by `linguastel_call`, and singly by the kernel in Rust with its test on every call; all three write their
+//! table by `linguastel_unguarded_table`, singly by `linguastel_unguarded_call`, and singly by the kernel in Rust with its test on every call; all three write their
 //! answers into a table of cells.
 use crate::cycles::{situations, Cycle, Expectation, Situation};
 use crate::programs::{Library, OnRecord, Rust};
 use crate::{figures_mark, CALLS, RUNS};
 use linguastel::number::TICK;
-use linguastel::{Answer, Call, Record, E_OK, TABLE};
+use linguastel::{Call, HostAnswer, Record, E_OK, TABLE};
 use std::hint::black_box;
 use std::time::Instant;
 
@@ -14,7 +14,7 @@ use std::time::Instant;
 trait Way {
     const PROGRAM: &'static str;
     // Gives the table's code.
-    fn play(record: &mut Record, calls: &[Call], answers: &mut [Answer]) -> i32;
+    fn play(record: &mut Record, calls: &[Call], answers: &mut [HostAnswer]) -> i32;
 }
 
 struct InTables;
@@ -23,7 +23,7 @@ impl Way for InTables {
     const PROGRAM: &'static str = "table";
 
     #[inline(always)]
-    fn play(record: &mut Record, calls: &[Call], answers: &mut [Answer]) -> i32 {
+    fn play(record: &mut Record, calls: &[Call], answers: &mut [HostAnswer]) -> i32 {
         record.table(calls, answers)
     }
 }
@@ -32,7 +32,7 @@ impl<K: OnRecord> Way for K {
     const PROGRAM: &'static str = K::NAME;
 
     #[inline(always)]
-    fn play(record: &mut Record, calls: &[Call], answers: &mut [Answer]) -> i32 {
+    fn play(record: &mut Record, calls: &[Call], answers: &mut [HostAnswer]) -> i32 {
         for (call, answer) in calls.iter().zip(answers) {
             *answer = K::call(record, *call);
         }
@@ -59,7 +59,7 @@ fn fits(cycle: &Cycle) -> bool {
 fn row(situation: &Situation, cycle: &Cycle, name: String, length: usize) -> Row {
     let mut start = Record { counter: situation.counter, ..Record::empty() };
     for call in situation.calls.iter().chain(&cycle.before) {
-        start.call(*call);
+        let _ = start.call(*call);
     }
     Row { record: situation.name, name, start, calls: cycle.calls.repeat(TABLE / cycle.calls.len()), length }
 }
@@ -94,16 +94,16 @@ fn shorter_tables(situation: &Situation) -> Vec<Row> {
 struct Ready {
     record: Record,
     calls: Vec<Call>,
-    answers: Vec<Answer>,
+    answers: Vec<HostAnswer>,
     length: usize,
 }
 
 // What a cell holds before its call is answered; no call gives it.
-const NO_ANSWER: Answer = Answer { kind: 2, code: 0, place: 0, a: 0, b: 0, c: 0 };
+const NO_ANSWER: HostAnswer = HostAnswer { kind: 2, code: 0, place: 0, a: 0, b: 0, c: 0 };
 
 fn ready(row: &Row) -> Ready {
     let calls: Vec<Call> = row.calls.iter().map(|(call, _)| *call).collect();
-    Ready { record: row.start, answers: vec![NO_ANSWER; calls.len()], calls, length: row.length }
+    Ready { record: row.start.clone(), answers: vec![NO_ANSWER; calls.len()], calls, length: row.length }
 }
 
 #[inline(never)]

@@ -169,7 +169,7 @@ impl Mix {
         let caller = self.caller(random, record, number);
         let object = self.object(random, record, number);
         let (value, attribute) = self.value_and_attribute(random, record, number, object);
-        let tmout = if matches!(number, TSND_DTQ | TRCV_DTQ | TRCV_MBX) { random.pick(&[1, 2, 5, 10, 20, 100, FOREVER]) } else { 0 };
+        let tmout = if matches!(number, TSND_DTQ | TRCV_DTQ | TRCV_MBX) { random.pick(&[1, 2, 5, 10, 20, 100, TMO_FEVR]) } else { 0 };
         let mut call = Call { number, caller, locked: 0, disabled: 0, object, value, tmout, attribute };
         if number != TICK && random.percent(MISTAKEN) {
             mistake(random, &mut call);
@@ -207,15 +207,15 @@ pub struct Counts {
 const LOOKED_AT: u64 = 16;
 
 impl Counts {
-    fn count(&mut self, call: Call, answer: Answer, record: &Record) {
+    fn count(&mut self, call: Call, answer: HostAnswer, record: &Record) {
         // A fetch may give the code of an ended wait without being refused.
         let fetched = call.number == FETCH && matches!(answer.code, E_RLWAI | E_TMOUT | E_DLT);
-        let refused = answer.code != E_OK && !fetched;
+        let refused = matches!(answer.read(), Answer::Error(_)) && !fetched;
         let reads = matches!(call.number, REF_DTQ | REF_MBX | LOOK | FETCH);
         self.records += 1;
         self.refused += u64::from(refused);
         self.changed += u64::from(!refused && !reads);
-        self.waits += u64::from(answer.waits());
+        self.waits += u64::from(answer.read().waits());
         self.ticks += u64::from(call.number == TICK);
         if self.records % LOOKED_AT == 0 {
             self.look(record);
@@ -243,12 +243,12 @@ impl Counts {
 }
 
 // The second program writes the record, since its `record_of` stands already and was written from the papers alone.
-fn bytes_of(call: Call, answer: Answer) -> [u8; second::RECORD] {
+fn bytes_of(call: Call, answer: HostAnswer) -> [u8; second::RECORD] {
     let Call { number, caller, locked, disabled, object, value, tmout, attribute } = call;
     let call = second::Call { number, caller, locked: locked != 0, disabled: disabled != 0, object, value, tmout, attribute };
-    let answer = match answer.outcome() {
-        Outcome::Finished(code) => second::Answer::Finished { code, a: answer.a, b: answer.b, c: answer.c },
-        Outcome::Waits(place) => second::Answer::Waits { place },
+    let answer = match answer {
+        HostAnswer { kind: 0, code, a, b, c, .. } => second::Answer::Finished { code, a, b, c },
+        HostAnswer { place, .. } => second::Answer::Waits { place },
     };
     second::record_of(&call, &answer)
 }
