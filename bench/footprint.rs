@@ -1,7 +1,7 @@
 //! The stated figures: bench/footprint.txt, whose tables docs/FIGURES.md has too. A row has a name and numbers, and behind them words.
 const TEXT: &str = include_str!("footprint.txt");
 
-/// Cells of a call's row, and of those of a table, a block and the end of a replay: bytes of stack, bytes copied, instructions.
+/// Cells of a row of the table of calls: bytes of stack, bytes copied, instructions.
 pub const STACK: usize = 0;
 pub const COPIED: usize = 1;
 pub const INSTRUCTIONS: usize = 2;
@@ -12,6 +12,7 @@ pub const NOT_SOUND: &str = "any call, the record not sound";
 pub const IN_TABLE: &str = "a table of 64, for each call";
 pub const IN_BLOCK: &str = "a block that ends one record";
 pub const REPLAY_END: &str = "the end of a replay";
+pub const TASK_SETS: &str = "which tasks wait, which are runnable";
 
 /// The name of a call's row.
 pub fn row_of(call: &str) -> String {

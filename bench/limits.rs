@@ -41,6 +41,7 @@ extern "C" {
     fn linguastel_unguarded_table(record: &mut Record, calls: *const Call, call_count: usize, answers: *mut HostAnswer, answer_count: usize) -> i32;
     fn linguastel_unguarded_replay_feed(replay: &mut Replay, block: *const u8, size: usize) -> i32;
     fn linguastel_unguarded_replay_end(replay: &Replay) -> linguastel::Line;
+    fn linguastel_unguarded_task_sets(record: &Record) -> Sets;
     // Of copies.c and stack.c.
     fn copied_so_far() -> Copied;
     fn stack_written(play: extern "C" fn(*mut c_void), job: *mut c_void) -> usize;
@@ -222,9 +223,7 @@ fn measured_block(kernel: &Record, record: [u8; TRACE_SIZE]) -> (Figures, Block)
     (Figures { stack: figures.stack - frames, ..figures }, job)
 }
 
-// ── The end of a recording ──
-
-type EndEntry = unsafe extern "C" fn(&Replay) -> linguastel::Line;
+// ── What only reads: the end of a recording, and the sets of tasks ──
 
 const NO_LINE: linguastel::Line = linguastel::Line { records: 0, differ: 0, first: 0, tail: 0, code: E_OK, spare: 0 };
 
@@ -232,27 +231,52 @@ extern "C" fn no_end(_: &Replay) -> linguastel::Line {
     NO_LINE
 }
 
-struct End {
-    entry: EndEntry,
-    replay: Replay,
-    line: linguastel::Line,
+// As the library hands them back.
+#[repr(C)]
+#[derive(Clone, Copy)]
+struct Sets {
+    waiting: u32,
+    runnable: u32,
 }
 
-impl Job for End {
+const NO_SETS: Sets = Sets { waiting: 0, runnable: 0 };
+
+extern "C" fn no_sets(_: &Record) -> Sets {
+    NO_SETS
+}
+
+struct Reading<L, T> {
+    entry: unsafe extern "C" fn(&L) -> T,
+    lent: L,
+    read: T,
+}
+
+impl<L, T> Job for Reading<L, T> {
     fn play(&mut self) {
-        // SAFETY: the function takes any replay and only reads it.
-        self.line = unsafe { (self.entry)(&self.replay) };
+        // SAFETY: the function takes any record or replay and only reads it.
+        self.read = unsafe { (self.entry)(&self.lent) };
     }
 }
 
-fn end(entry: EndEntry, kernel: &Record) -> End {
-    End { entry, replay: Replay { kernel: kernel.clone(), ..Replay::empty() }, line: NO_LINE }
+fn measured_end(kernel: &Record) -> Figures {
+    let replay = Replay { kernel: kernel.clone(), ..Replay::empty() };
+    let frames = frames_around(Reading { entry: no_end, lent: replay.clone(), read: NO_LINE });
+    let figures = raw(&mut Reading { entry: linguastel_unguarded_replay_end, lent: replay, read: NO_LINE });
+    Figures { stack: figures.stack - frames, ..figures }
 }
 
-fn measured_end(kernel: &Record) -> Figures {
-    let frames = frames_around(end(no_end, &Record::empty()));
-    let figures = raw(&mut end(linguastel_unguarded_replay_end, kernel));
-    Figures { stack: figures.stack - frames, ..figures }
+fn measured_sets(record: &Record) -> Result<Figures, String> {
+    let frames = frames_around(Reading { entry: no_sets, lent: record.clone(), read: NO_SETS });
+    let mut job = Reading { entry: linguastel_unguarded_task_sets, lent: record.clone(), read: NO_SETS };
+    let figures = raw(&mut job);
+    let waiting = (1..=TASKS).filter(|task| record.tasks[*task].wait != NO_WAIT).fold(0, |set, task| set | 1 << (task - 1));
+    let able = |task: &usize| record.tasks[*task].flags == DEFINED && record.tasks[*task].wait == NO_WAIT;
+    let runnable = (1..=TASKS).filter(able).fold(0, |set, task| set | 1 << (task - 1));
+    if (job.read.waiting, job.read.runnable) == (waiting, runnable) {
+        Ok(Figures { stack: figures.stack - frames, ..figures })
+    } else {
+        Err("the sets of tasks are not those of the record".into())
+    }
 }
 
 // A record to play on, and what a table takes there that has unknown calls alone.
@@ -675,24 +699,26 @@ fn most_of<'a>(lines: impl Iterator<Item = &'a Line>, of: fn(&Line) -> Figures) 
 }
 
 // What is measured for each row of bench/footprint.txt.
-fn measured_rows(lines: &[Line]) -> Vec<(String, Figures)> {
+fn measured_rows(lines: &[Line]) -> Result<Vec<(String, Figures)>, String> {
     let name = |number: u32| CALL_NAMES.get(number as usize).map_or(footprint::UNKNOWN_NUMBER.into(), |name| row_of(name));
     let of_call = |number: u32| (name(number), most_of(lines.iter().filter(|line| line.number == number), |line| line.library));
     let mut rows: Vec<(String, Figures)> = (TICK..=FETCH + 1).map(of_call).collect();
     let unsound = [not_sound(situation("typical")), not_sound(situation("full"))];
     let refused = unsound.iter().flat_map(|record| (TICK..=FETCH).map(move |number| measured(linguastel_unguarded_call, record, by(0, number, 1)).0));
     rows.push((footprint::NOT_SOUND.into(), refused.fold(Figures::default(), Figures::most)));
-    let records = typical_records().into_iter().chain(full_records());
-    let ends = records.map(|record| measured_end(&record)).fold(Figures::default(), Figures::most);
+    let records: Vec<Record> = typical_records().into_iter().chain(full_records()).collect();
+    let ends = records.iter().map(measured_end).fold(Figures::default(), Figures::most);
+    let sets = records.iter().map(measured_sets).collect::<Result<Vec<_>, _>>()?.into_iter().fold(Figures::default(), Figures::most);
     rows.push((footprint::IN_TABLE.into(), most_of(lines.iter(), in_table)));
     rows.push((footprint::IN_BLOCK.into(), most_of(lines.iter(), in_block)));
     rows.push((footprint::REPLAY_END.into(), ends));
-    rows
+    rows.push((footprint::TASK_SETS.into(), sets));
+    Ok(rows)
 }
 
 fn above_stated(lines: &[Line]) -> Result<Vec<String>, String> {
     let mut faults = Vec::new();
-    for (name, figures) in measured_rows(lines) {
+    for (name, figures) in measured_rows(lines)? {
         let (stack, copied) = (stated(&name, footprint::STACK)? as usize, stated(&name, footprint::COPIED)? as usize);
         println!("{name}: {} bytes of stack, {stack} stated; {} bytes copied, {copied} stated", figures.stack, figures.copied);
         if figures.stack > stack || figures.copied > copied {

@@ -32,8 +32,13 @@ pub struct Counter {
     counted: u64,
 }
 
-const FUNCTIONS: [&str; 4] =
-    ["linguastel_unguarded_call", "linguastel_unguarded_table", "linguastel_unguarded_replay_feed", "linguastel_unguarded_replay_end"];
+const FUNCTIONS: [&str; 5] = [
+    "linguastel_unguarded_call",
+    "linguastel_unguarded_task_sets",
+    "linguastel_unguarded_table",
+    "linguastel_unguarded_replay_feed",
+    "linguastel_unguarded_replay_end",
+];
 
 impl Counter {
     /// callgrind's files go to this folder. The environment is empty, since what stands there moves the stack, and with it memcpy's count.
@@ -91,6 +96,8 @@ pub const PLAY: &str = "play";
 
 extern "C" {
     fn linguastel_unguarded_call(record: *mut u8, call: Call) -> HostAnswer;
+    // Two sets of 32 bits.
+    fn linguastel_unguarded_task_sets(record: *const u8) -> u64;
     fn linguastel_unguarded_table(record: *mut u8, calls: *const Call, call_count: usize, answers: *mut HostAnswer, answer_count: usize) -> i32;
     fn linguastel_unguarded_replay_feed(replay: *mut u8, block: *const u8, size: usize) -> i32;
     fn linguastel_unguarded_replay_end(replay: *const u8) -> Line;
@@ -99,8 +106,11 @@ extern "C" {
 // Kinds of jobs. A job is its kind, how many bytes of calls or block it has, the bytes of the record or replay, and those bytes.
 const A_CALL: u64 = 0;
 const A_TABLE: u64 = 1;
-const A_BLOCK: u64 = 2;
-const AN_END: u64 = 3;
+const SETS: u64 = 2;
+const A_BLOCK: u64 = 3;
+const AN_END: u64 = 4;
+// Up to this one, a record is lent; from there on a replay.
+const LAST_OF_RECORD: u64 = SETS;
 
 // Of types of which every byte belongs to a field.
 fn bytes_of<T>(all: &[T]) -> &[u8] {
@@ -114,6 +124,7 @@ fn job(record: &Record, played: &Played) -> Vec<u8> {
     match played {
         Played::One(made) | Played::Damaged(Damaged { made, .. }) => with(A_CALL, lent, bytes_of(from_ref(made))),
         Played::Table(calls) => with(A_TABLE, lent, bytes_of(calls)),
+        Played::Sets => with(SETS, lent, &[]),
         Played::Block(block) => with(A_BLOCK, bytes_of(from_ref(&block.replay(record))), &block.bytes(record)),
         Played::End => with(AN_END, bytes_of(from_ref(&Replay { kernel: record.clone(), ..Replay::EMPTY })), &[]),
     }
@@ -141,6 +152,7 @@ fn play(kind: u64, lent: &mut Place<{ size_of::<Replay>() }>, items: &Place<LONG
         match kind {
             A_CALL => answers[0] = linguastel_unguarded_call(lent, calls.read()),
             A_TABLE => _ = linguastel_unguarded_table(lent, calls, size / size_of::<Call>(), answers.as_mut_ptr(), TABLE),
+            SETS => _ = linguastel_unguarded_task_sets(lent),
             A_BLOCK => _ = linguastel_unguarded_replay_feed(lent, items.0.as_ptr(), size),
             _ => _ = linguastel_unguarded_replay_end(lent),
         }
@@ -156,7 +168,7 @@ pub fn play_all() -> io::Result<()> {
         let kind = u64::from_ne_bytes(number);
         input.read_exact(&mut number)?;
         let size = u64::from_ne_bytes(number) as usize;
-        let whole = if kind <= A_TABLE { size_of::<Record>() } else { size_of::<Replay>() };
+        let whole = if kind <= LAST_OF_RECORD { size_of::<Record>() } else { size_of::<Replay>() };
         input.read_exact(&mut lent.0[..whole])?;
         input.read_exact(&mut items.0[..size])?;
         play(kind, &mut lent, &items, size);

@@ -279,6 +279,7 @@ pub struct Damaged {
     pub made: Made,
 }
 
+/// The last two are the end of a replay of the planned state, and the sets of tasks that wait and are runnable.
 #[derive(Clone, PartialEq, Debug)]
 pub enum Played {
     One(Made),
@@ -286,6 +287,7 @@ pub enum Played {
     Table(Vec<Made>),
     Block(Block),
     End,
+    Sets,
 }
 
 impl Display for Played {
@@ -296,6 +298,7 @@ impl Display for Played {
             Played::Table(calls) => write!(f, "table {}", text_of(calls, ", ")),
             Played::Block(Block { part, tail, made }) => write!(f, "block {part} {tail} {made}"),
             Played::End => write!(f, "end"),
+            Played::Sets => write!(f, "sets"),
         }
     }
 }
@@ -315,6 +318,7 @@ impl FromStr for Played {
         let (first, rest) = text.split_once(' ').unwrap_or((text, ""));
         match first {
             "end" => Ok(Played::End),
+            "sets" => Ok(Played::Sets),
             "table" => words(rest, ',').map(Played::Table),
             "block" => {
                 let (part, tail, made) = with_two_numbers(rest, TRACE_SIZE, TRACE_SIZE)?;
@@ -515,7 +519,7 @@ impl Played {
                     block.made = random_made(random, number);
                 }
             },
-            Played::End => {}
+            Played::End | Played::Sets => {}
         }
     }
 }
