@@ -806,8 +806,8 @@ static inline const char *linguastel_call_name(uint32_t number)
     return number <= LINGUASTEL_LAST_CALL ? names[number] : "no call";
 }
 
-/* What a task waits for: look's a, or the field wait. */
-static inline const char *linguastel_wait_name(uint8_t wait)
+/* What a task waits for: look's tskwait, or the field wait. */
+static inline const char *linguastel_wait_name(uint32_t wait)
 {
     switch (wait) {
     case LINGUASTEL_NO_WAIT: return "no wait";

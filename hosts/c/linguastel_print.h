@@ -1,6 +1,6 @@
 /*
- * Prints a record in words: the counter, then a line for each task, data queue and mailbox that is defined. hosts/print.txt has an example, which
- * hosts/c/print.c prints. For hosts in C and C++ with stdio.h; the dialects are those of linguastel.h.
+ * Prints a record in words: the counter, then a line for each task, data queue and mailbox that is defined; and an answer in words. hosts/print.txt has
+ * examples, which hosts/c/print.c prints. For hosts in C and C++ with stdio.h; the dialects are those of linguastel.h.
  */
 #ifndef LINGUASTEL_PRINT_H
 #define LINGUASTEL_PRINT_H
@@ -126,6 +126,23 @@ static inline void linguastel_print(FILE *file, const LinguastelRecord *record)
     }
     for (uint32_t mailbox = 1; mailbox <= LINGUASTEL_MAILBOXES; mailbox++) {
         linguastel_print_mailbox(file, record, mailbox);
+    }
+}
+
+/* Prints an answer, without a line's end: 'E_OK, a 10, c 1', where words that are 0 aren't written; 'E_PAR'; or 'waits, place 0'. */
+static inline void linguastel_print_answer(FILE *file, LinguastelAnswer answer)
+{
+    const char names[] = "abc";
+    const uint32_t words[] = { answer.a, answer.b, answer.c };
+    if (linguastel_waits(answer)) {
+        fprintf(file, "waits, place %" PRIu32, answer.place);
+        return;
+    }
+    fputs(linguastel_code_name(answer.code), file);
+    for (size_t i = 0; i < sizeof words / sizeof words[0]; i++) {
+        if (words[i] != 0) {
+            fprintf(file, ", %c %" PRIu32, names[i], words[i]);
+        }
     }
 }
 

@@ -1,6 +1,6 @@
 /*
- * Prints three records in words: the empty one, one that these calls make, with every form of a line, and one that isn't sound. The output is
- * hosts/print.txt. The exit status is 1 where a call is refused.
+ * Prints three records in words: the empty one, one that these calls make, with every form of a line, and one that isn't sound; and before the last one
+ * answers in words. The output is hosts/print.txt. The exit status is 1 where a call is refused that should be accepted.
  */
 #include <stdio.h>
 #include <string.h>
@@ -54,6 +54,12 @@ static const struct {
     { LINGUASTEL_TICK, 0, 0, 0, 0, 0 },
 };
 
+static void print_line(LinguastelAnswer answer)
+{
+    linguastel_print_answer(stdout, answer);
+    puts("");
+}
+
 int main(void)
 {
     static LinguastelRecord record;
@@ -67,6 +73,9 @@ int main(void)
         accepted = accepted && (linguastel_is_ok(answer) || linguastel_waits(answer));
     }
     linguastel_print(stdout, &record);
+    print_line(linguastel_iref_dtq(&record, 1));
+    print_line(linguastel_iref_dtq(&record, 4));
+    print_line(linguastel_rcv_dtq(&record, linguastel_as_task(1), 2));
     memset(&record, 0xff, sizeof record);
     linguastel_print(stdout, &record);
     return accepted ? 0 : 1;

@@ -29,7 +29,7 @@ mod trace;
 
 pub use answer::{Answer, HostAnswer, Looked, Rdtq, Rmbx, Words};
 pub use call::{Call, Context};
-pub use library::{library_fits, library_layout, VERSION};
+pub use library::{library_fits, library_layout, VERSION, VERSION_TEXT};
 pub use lists::{Numbers, StoredWords};
 pub use names::*;
 pub use record::*;

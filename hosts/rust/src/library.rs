@@ -37,6 +37,9 @@ extern "C" {
 /// the meaning of a function changes, the patch number when neither does.
 pub const VERSION: u32 = 1500;
 
+/// The same as text.
+pub const VERSION_TEXT: &str = "0.15.0";
+
 /// Whether all three archives are those that this crate was written for: their versions, and the sizes and alignments of a record and a replay. A host
 /// asks once, at start-up.
 #[must_use]

@@ -1,5 +1,6 @@
-//! Prints three records in words: the empty one, one that some calls make, with every form of a line, and one that isn't sound. Calls and output are
-//! those of hosts/c/print.c, and hosts/print.txt has the output. The exit status is 1 where a call is refused.
+//! Prints three records in words: the empty one, one that some calls make, with every form of a line, and one that isn't sound; and before the last one
+//! answers in words. Calls and output are those of hosts/c/print.c, and hosts/print.txt has the output. The exit status is 1 where a call is refused that
+//! should be accepted.
 use linguastel::{Answer, Context, Record, LONGEST_TMOUT, TA_MPRI, TA_TFIFO, TA_TPRI, TMO_FEVR};
 use std::process::ExitCode;
 
@@ -49,6 +50,9 @@ fn main() -> ExitCode {
     let mut answers = [objects(&mut record), at_queues(&mut record), at_mailboxes(&mut record)].concat();
     answers.extend([record.isus_tsk(7), record.isus_tsk(9), record.isus_tsk(32), record.tick()]);
     println!("{record}");
+    println!("{}", record.iref_dtq(1));
+    println!("{}", record.iref_dtq(4));
+    println!("{}", record.rcv_dtq(Context::task(1), 2));
     // These links lead to numbers that no task has.
     record.waiting.link.fill(255);
     println!("{record}");

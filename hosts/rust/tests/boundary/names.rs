@@ -53,7 +53,8 @@ fn names_of_causes() {
 fn versions() {
     assert!(library_fits());
     let [major, minor, patch] = [VERSION / 10_000, VERSION / 100 % 100, VERSION % 100];
-    let line = format!("version = \"{major}.{minor}.{patch}\"");
+    assert_eq!(VERSION_TEXT, format!("{major}.{minor}.{patch}"));
+    let line = format!("version = \"{VERSION_TEXT}\"");
     assert!(include_str!("../../Cargo.toml").lines().any(|found| found == line), "{line}");
 }
 
