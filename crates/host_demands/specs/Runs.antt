@@ -2,12 +2,16 @@
 -- that the call before it left.
 use mathlib.Core.Path.{_≡_}
 use mathlib.Core.Bool.{cond}
+use mathlib.Core.Logic.{_≢_}
+use Prim.Native.Nat.{ℕ}
 use lib.Dec.{eqb}
 use lib.IntN.{ℤ, pos}
 use Rattle.model.specs.Codes.{Values, values, number}
 use Rattle.model.specs.declared.Answer.{Answer}
 use Rattle.model.specs.declared.Call.{Call}
 use Rattle.model.specs.declared.Code.{Code}
+use Rattle.model.specs.declared.Code.the-variants.{Ok as E-OK}
+use Rattle.model.specs.declared.Outcome.the-variants.{Finished, Waits}
 use Rattle.record.specs.declared.State.{State}
 use Rattle.demands.specs.Runs.{ListsRun, ModelsRunAs, Interface}
 use Rattle.demands.specs.Tables.{Tables}
@@ -31,6 +35,14 @@ host-values x = record { kind = x .kind; code-or-place = cond (eqb (x .kind) 0) 
 -- It is what the answer was before it was written for the host.
 abbrev pub HostValues : Type 0
 HostValues = (x : Answer) → host-values (answer-of x) ≡ values x
+
+-- A host that looks at the code alone: E_OK's number says that the call is finished with E_OK, and a call that waits has no code's number.
+pub record CodeTells (x : Answer) : Type 0 where
+  pub done : answer-of x .code ≡ number E-OK → x .outcome ≡ Finished E-OK
+  pub waiting : (place : ℕ) → x .outcome ≡ Waits place → (code : Code) → answer-of x .code ≢ number code
+
+abbrev pub CodesTell : Type 0
+CodesTell = (x : Answer) → CodeTells x
 
 -- Through the function that hosts call, a call of number 0 being the tick.
 abbrev pub for-hosts : Interface HostRecord HostCall HostAnswer
