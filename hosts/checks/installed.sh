@@ -2,11 +2,11 @@
 
 # DESTDIR puts the files into another folder than their prefix, where they have to work too.
 stage=$build/stage
-prefix=$stage/opt/linguastel
+prefix=$stage/usr/local/linguastel
 examples=$prefix/share/linguastel/examples
 first=hosts/examples/first.txt
 
-installs() { rm -rf "$stage" && DESTDIR=$stage hosts/install /opt/linguastel --built; }
+installs() { rm -rf "$stage" && DESTDIR=$stage hosts/install /usr/local/linguastel --built; }
 
 package() { PKG_CONFIG_PATH=$prefix/lib/pkgconfig pkg-config "$@" linguastel; }
 

@@ -1,5 +1,5 @@
 -- A set of tasks is made from the last task to the first.
-use mathlib.Core.Path.{_≡_, refl, sym, ap, ap₂, subst, _∙_}
+use mathlib.Core.Path.{_≡_, refl, sym, ap, ap₂, _∙_}
 use mathlib.Core.Bool.{Bool, cond, not, _&&_, true, false}
 use Prim.Native.Nat.{ℕ, zero, suc, _+_, _-_, _*_, _^_, _≤_, _<_}
 use native.Mathlib.Nat.{pow-suc, lt-of-lt-of-le}
@@ -89,28 +89,24 @@ pub record SoFar (numbers : List HostTask) (t waiting runnable : ℕ) : Type 0 w
 pub begins : (numbers : List HostTask) → SoFar numbers 33 0 0
 begins numbers = record { low = omega arith; high = omega arith; waiting-is = sym (none-yet _); runnable-is = sym (none-yet _) }
 
+set-grows : (has : ℕ → Bool) {t rest more : ℕ} {b : Bool} → 1 < t → t ≤ 33 → rest ≡ from-on has t → b ≡ has (t - 1) → more ≡ cond b 1 0 + 2 * rest → more ≡ from-on has (t - 1)
+set-grows has {t} some fits rest-is b-is more-is =
+    let next : suc (t - 1) ≡ t = omega arith in
+    more-is ∙ (ap₂ (λ (b : Bool) (rest : ℕ). cond b 1 0 + 2 * rest) b-is (rest-is ∙ ap (from-on has) (sym next)) ∙ one-more has (omega arith))
+
 pub one-task-more : {numbers : List HostTask} {t waiting runnable waiting′ runnable′ number : ℕ} (x : Task)
     → SoFar numbers t waiting runnable → 1 < t → x ≡ task-of numbers (t - 1) → number ≡ wait-number (x .wait)
     → waiting′ ≡ cond (not (eqb number 0)) 1 0 + 2 * waiting
     → runnable′ ≡ cond ((x .defined && not (not (eqb number 0))) && not (x .suspended)) 1 0 + 2 * runnable
     → SoFar numbers (t - 1) waiting′ runnable′
-one-task-more {numbers} {t} {waiting} {runnable} {waiting′} {runnable′} {number} x so-far more x-is number-is waiting-is runnable-is =
-    let next : suc (t - 1) ≡ t = omega arith in
+one-task-more x so-far some x-is number-is waiting-is runnable-is =
+    let waits-is = ap (λ (n : ℕ). not (eqb n 0)) number-is ∙ (waits-by-number (x .wait) ∙ ap waits x-is) in
+    let runs-is = ap (λ (n : ℕ). (x .defined && not (not (eqb n 0))) && not (x .suspended)) number-is ∙ (can-run-by-number (x .defined) (x .suspended) (x .wait) ∙ ap can-run x-is) in
     record {
       low = omega arith;
       high = let h = so-far .high in omega arith;
-      waiting-is =
-          waiting-is
-          ∙ (ap₂ (λ (b : Bool) (rest : ℕ). cond b 1 0 + 2 * rest)
-              (ap (λ (n : ℕ). not (eqb n 0)) number-is ∙ (waits-by-number (x .wait) ∙ ap waits x-is))
-              (so-far .waiting-is ∙ ap (from-on _) (sym next))
-          ∙ one-more _ (let h = so-far .high in omega arith));
-      runnable-is =
-          runnable-is
-          ∙ (ap₂ (λ (b : Bool) (rest : ℕ). cond b 1 0 + 2 * rest)
-              (ap (λ (n : ℕ). (x .defined && not (not (eqb n 0))) && not (x .suspended)) number-is ∙ (can-run-by-number (x .defined) (x .suspended) (x .wait) ∙ ap can-run x-is))
-              (so-far .runnable-is ∙ ap (from-on _) (sym next))
-          ∙ one-more _ (let h = so-far .high in omega arith));
+      waiting-is = set-grows _ some (so-far .high) (so-far .waiting-is) waits-is waiting-is;
+      runnable-is = set-grows _ some (so-far .high) (so-far .runnable-is) runs-is runnable-is;
     }
 
 pub rooms : {numbers : List HostTask} {t waiting runnable : ℕ} → SoFar numbers t waiting runnable → 1 < t → (waiting < 2147483648) × (runnable < 2147483648)
