@@ -2,6 +2,7 @@
 // the step behind the soundness test, or not at all. It reads records of 32 bytes (document 02, item 3) from standard input: the first says how, in
 // its byte 0, and gives the counter, in its bytes 4 to 7; the next make the record through the entry; those behind the mark are played as the first
 // says, as often as the input has them. It prints a checksum of their answers.
+#![tactic(auto)]
 ghost use Rattle.std.specs.Prelude.{◌≡◌, length};
 ghost use Rattle.record.specs.Sound.{Sound};
 ghost use Rattle.record.specs.Step.{Stepped};

@@ -1,6 +1,7 @@
 // The functions that hosts call, in C or Rust: thin entries over the record that the host lends. `rt staticlib linguastel` makes the library.
 // A function named unguarded is handed a pointer that nothing here can test for null or for its alignment: the C header's functions of the plain names test it
 // first, and safe Rust has no such pointer.
+#![tactic(auto)]
 ghost use Rattle.std.specs.Prelude.{◌≡◌};
 ghost use Rattle.model.specs.Rows.{empty_state};
 ghost use Rattle.host_record.specs.Record.{HostSound, meaning};

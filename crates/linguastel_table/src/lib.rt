@@ -2,6 +2,7 @@
 // a library of its own: a second place from which the kernel's functions are called would make both dearer (docs/DECISIONS.md).
 // A function named unguarded is handed a pointer that nothing here can test for null or for its alignment: the C header's functions of the plain names test it
 // first, and safe Rust has no such pointer.
+#![tactic(auto)]
 ghost use Rattle.std.specs.Prelude.{◌≡◌};
 ghost use Rattle.host_calls.specs.Version.{version};
 ghost use Rattle.linguastel_table.specs.TableCalled.{TableCalled};

@@ -1,5 +1,6 @@
 // The types of the interface: what a call hands over, what it answers, and what a task's record says of its wait.
 // The definition of every call is in specs/; this crate has no code.
+#![tactic(auto)]
 
 // Document 01, "The kernel part we mean": the sizes, as specs/Sizes.antt has them. The smallest number of each kind is 1.
 pub const CALL_LIMIT: u8 = 23;

@@ -1,5 +1,6 @@
 // Replays a recording (document 02, item 3): reads it from standard input to its end, in blocks (item 5), and prints the line. Where a read fails, or a block or
 // the end is refused, it says so on standard error and prints no line.
+#![tactic(auto)]
 use libc::{EINTR, STDERR_FILENO, STDIN_FILENO, STDOUT_FILENO};
 use model::Code;
 use replays::{Ended, Replay};

@@ -1,4 +1,5 @@
 // Reads records from standard input until no whole one is left, and prints for each whether the kernel's state that it describes is sound.
+#![tactic(auto)]
 ghost use Rattle.std.specs.Prelude.{◌+◌, ◌<◌, ◌≤◌};
 
 use chain::{CELLS, Chains, KEY_CELLS};

@@ -1,1 +1,2 @@
 // How a thin entry is proved, once for all types: in proofs/. No code.
+#![tactic(auto)]
