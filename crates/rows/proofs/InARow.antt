@@ -82,8 +82,8 @@ module _ {I S R A X Y : Type 0} (same_owner : Discrete I) {step : S → R → Re
   alone i s t ((j, x) ∷ turns) e = elim (same_owner j i) [
     | yes p ↦
         let parts = answers_apart step s t (made.row x) (simp (answers_of_row, share_own, keep_yes, made.one_entry, answers_append) at e) in
-        simp keep_yes (ap₂ (λ y l. y ∷ l) (made.by_answers s t x parts.0) (alone i _ _ turns (simp made.state_is parts.1)))
-    | no n ↦ simp keep_no (alone i _ t turns (simp made.state_is (simp (answers_of_row, share_other, keep_no) at e)))
+        simp keep_yes (ap₂ (λ y l. y ∷ l) (made.by_answers s t x parts.0) (alone i (entry s x).state (entry t x).state turns (simp made.state_is parts.1)))
+    | no n ↦ simp keep_no (alone i (entry s x).state t turns (simp made.state_is (simp (answers_of_row, share_other, keep_no) at e)))
   ]
 
   pub made_of_calls : (s : S) (lists : I → List X) → SeparateAll same_owner step s (λ i. calls (lists i)) → SeparateAll same_owner entry s lists

@@ -1,14 +1,10 @@
 -- `ring::Ring::in_range` is exact: its three tests are, and they say what `InRange` says.
 use Rattle.lists.proofs.Tests.{is_map, is_and, is_ltb, is_leb}
-use Rattle.ring.proofs.Ring.in_range.Statement.{statement}
-use Rattle.ring.proofs.Ring.in_range.Tie as tie
+use Rattle.ring.proofs.Ring.in_range.Goals as goal
 
-returns : tie.Need-returns
+pub returns : goal.returns
 returns c =
     is_map
     (λ t. record { head_is_place = t.0.0; count_fits = t.0.1; capacity_fits = t.1 })
     (λ i. ((i.head_is_place, i.count_fits), i.capacity_fits))
     (is_and (is_and (is_ltb _ _) (is_leb _ _)) (is_leb _ _))
-
-pub in_range_spec : {M : Type 1} → statement M
-in_range_spec = tie.close (tie.spec returns)

@@ -1,11 +1,7 @@
 -- `Chains::new` fills the cells with 0, so all chains are empty.
 use mathlib.Core.Path.{refl}
 use Rattle.chain.proofs.New.{new_sound, new_lists}
-use Rattle.chain.proofs.Chains.new.Statement.{statement}
-use Rattle.chain.proofs.Chains.new.Tie as tie
+use Rattle.chain.proofs.Chains.new.Goals as goal
 
-returns : tie.Need-returns
+pub returns : goal.returns
 returns c = record { sound = new_sound; lists_are = new_lists; keys_are = refl }
-
-pub new_spec : {M : Type 1} → statement M
-new_spec = tie.close (tie.spec returns)

@@ -2,11 +2,7 @@
 use mathlib.Core.Path.{refl}
 use native.Mathlib.Omega.{arith}
 use borrow.Author.Tests.{le-leb}
-use Rattle.chain.proofs.passes.Statement.{statement}
-use Rattle.chain.proofs.passes.Tie as tie
+use Rattle.chain.proofs.passes.Goals as goal
 
-returns : tie.Need-returns
+pub returns : goal.returns
 returns c = record { answer_is = refl; all = λ e. le-leb c.args.key c.args.limit (let h = c.ranges.key in omega arith) }
-
-pub passes_spec : {M : Type 1} → statement M
-passes_spec = tie.close (tie.spec returns)
