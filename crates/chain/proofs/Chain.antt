@@ -17,6 +17,7 @@ use Rattle.chain.specs.Table.{cells, key_cells, from_number, follow, Chain, ends
 
 -- A number of a chain is one of the table's.
 pub in_range : {n : ℕ} {s : List ℕ} {cell : ℕ} {l : List ℕ} {x : ℕ} → Chain n s cell l → In x l → (0 < x) × (x ≤ n)
+in_range {n = n} {s = s} (ends {cell = cell} _) x9 = elim x9 [ ]
 in_range (goes_on e lo hi c) (here q) = omega arith
 in_range (goes_on e lo hi c) (there i) = in_range c i
 
@@ -31,6 +32,7 @@ same_chain {n} {s} (goes_on {x = x} e lo hi c) (goes_on {x = y} {l = k} f lo' hi
 
 -- Behind a number of a chain stands less.
 behind : {n : ℕ} {s : List ℕ} {cell : ℕ} {l : List ℕ} {x : ℕ} → Chain n s cell l → In x l → (b : List ℕ) × Chain n s x b × (length b < length l)
+behind {n = n} {s = s} (ends {cell = cell} _) x9 = elim x9 [ ]
 behind {n} {s} (goes_on {l = l} e lo hi c) (here q) = (l, subst (λ (y : ℕ). Chain n s y l) (sym q) c, omega arith)
 behind (goes_on e lo hi c) (there i) = let r = behind c i in (r.0, r.1, omega arith)
 

@@ -16,16 +16,12 @@ find-spot-requires c = walk_from_head (next_chain c.requires.0 c.loop-chain.inva
 
 pub bounds-link-at : goal.bounds-link-at
 bounds-link-at c =
-    let test = c in
-    let h = reached_fits (next_chain test.requires.0 test.loop-chain.invariant test.loop-chain-test.true) c.find-spot.ensures.reached in
+    let h = reached_fits (next_chain c.requires.0 c.loop-chain.invariant c.loop-chain-test.true) c.find-spot.ensures.reached in
     omega arith
 
 pub returns-then-link-at : goal.returns-then-link-at
 returns-then-link-at c =
-    let found = c in
-    let test = found in
-    let start = test in
-    standing start.requires.0 (searched_here (next_chain start.requires.0 test.loop.invariant test.loop-test.true) found.find-spot.ensures start.requires.1 c.if-link-at.true)
+    standing c.requires.0 (searched_here (next_chain c.requires.0 c.loop-chain.invariant c.loop-chain-test.true) c.find-spot.ensures c.requires.1 c.if-link-at.true)
 
 pub overflow_add-chain : goal.overflow_add-chain
 overflow_add-chain c =
@@ -38,10 +34,8 @@ loop-chain-smaller c = let b = c.loop-chain-test.true in omega arith
 
 pub loop-chain-preserved : goal.loop-chain-preserved
 loop-chain-preserved c =
-    let found = c in
-    let test = found in
-    let b = test.loop.invariant in
-    not_below_more (next_chain test.requires.0 b test.loop-test.true) found.find-spot.ensures c.if-link-at.false b
+    let b = c.loop-chain.invariant in
+    not_below_more (next_chain c.requires.0 b c.loop-chain-test.true) c.find-spot.ensures c.if-link-at.false b
 
 pub returns : goal.returns
 returns c = standing c.requires.0 (searched_all c.requires.0 c.loop-chain.invariant c.loop-chain-test.false)

@@ -3,8 +3,8 @@ use Prim.Native.Nat.{◌+◌, ◌-◌}
 use Rattle.chain.proofs.Search.{NotBelow}
 use Rattle.chain.proofs.chain_of.Given as goal
 
-abbrev pub invariant-loop : goal.invariant-loop
-invariant-loop l = NotBelow l.numbers l.chains l.chain l.number l.link
+abbrev pub invariant-loop-chain : goal.invariant-loop-chain
+invariant-loop-chain l = NotBelow l.numbers l.chains l.chain l.number l.link
 
-abbrev pub decreases-loop : goal.decreases-loop
-decreases-loop l = l.chains + 1 - l.chain
+abbrev pub decreases-loop-chain : goal.decreases-loop-chain
+decreases-loop-chain l = l.chains + 1 - l.chain

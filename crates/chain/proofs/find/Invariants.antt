@@ -4,8 +4,8 @@ use Rattle.chain.specs.Table.{follow}
 use Rattle.chain.proofs.Walks.{Finding}
 use Rattle.chain.proofs.find.Given as goal
 
-abbrev pub invariant-loop : goal.invariant-loop
-invariant-loop l = Finding l.numbers l.head l.number l.link l.at l.place l.next
+abbrev pub invariant-loop-next : goal.invariant-loop-next
+invariant-loop-next l = Finding l.numbers l.head l.number l.link l.at l.place l.next
 
-abbrev pub decreases-loop : goal.decreases-loop
-decreases-loop l = length (follow l.numbers l.link l.at)
+abbrev pub decreases-loop-next : goal.decreases-loop-next
+decreases-loop-next l = length (follow l.numbers l.link l.at)

@@ -1,7 +1,6 @@
 -- `seek` stops behind the last key that the limit passes. The invariant: keys passed and keys still to be passed make the place.
 use mathlib.Core.Path.{sym}
 use native.Mathlib.Omega.{arith}
-use borrow.Author.Tests.{not-true, not-false}
 use Rattle.chain.proofs.Walks.{has_key, shorter, place_small, counting_head, seeking_next, sought_end, sought_stop, passes_yes, passes_no, passes_some}
 use Rattle.chain.proofs.seek.Goals as goal
 
@@ -19,10 +18,9 @@ bounds-key-next c =
 
 pub returns-then-not-passes : goal.returns-then-not-passes
 returns-then-not-passes c =
-    let test = c in
-    let f = not-true c.passes.result c.if-not-passes.true in
+    let f = c.if-not-passes.true in
     let p = c.passes.ensures in
-    sought_stop _ test.loop-next.invariant test.loop-next-test.true (passes_no p f) (passes_some p f)
+    sought_stop _ c.loop-next.invariant c.loop-next-test.true (passes_no p f) (passes_some p f)
 
 pub overflow_add-place : goal.overflow_add-place
 overflow_add-place c =
@@ -38,16 +36,13 @@ bounds-link-at-in-loop-next c =
 
 pub loop-next-smaller : goal.loop-next-smaller
 loop-next-smaller c =
-    let test = c in
-    let k = test.loop-next.invariant in
-    shorter k.reached.walk k.next_is test.loop-next-test.true
+    let k = c.loop-next.invariant in
+    shorter k.reached.walk k.next_is c.loop-next-test.true
 
 pub loop-next-preserved : goal.loop-next-preserved
 loop-next-preserved c =
-    let passed = c in
-    let test = passed in
-    let t = not-false passed.passes.result c.if-not-passes.false in
-    seeking_next _ test.loop.invariant test.loop-test.true (passes_yes passed.passes.ensures t) (sym c.wide-next-in-loop-next.ensures)
+    let t = c.if-not-passes.false in
+    seeking_next _ c.loop-next.invariant c.loop-next-test.true (passes_yes c.passes.ensures t) (sym c.wide-next-in-loop-next.ensures)
 
 pub returns : goal.returns
 returns c = sought_end _ c.loop-next.invariant c.loop-next-test.false
