@@ -23,7 +23,7 @@ pub const EVERY_KEY: u8 = 255;
 // A table of chains, with a key for each number: a task's priority, or the priority kept with a message. A caller lends `link`
 // and `key` to the functions below and looks at none of their cells.
 #[repr(C)]
-#[derive(Drop)]
+#[derive(Clone, Copy)]
 pub struct Chains {
     pub link: [u8; CELLS],
     pub key: [u8; KEY_CELLS],
@@ -42,7 +42,7 @@ impl Chains {
 }
 
 // Where a walk stops: a cell, and how many numbers it has passed.
-#[derive(Drop)]
+#[derive(Clone, Copy)]
 struct Spot {
     at: usize,
     place: usize,

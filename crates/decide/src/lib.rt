@@ -16,7 +16,7 @@ use errors::{Seen, TaskSeen};
 use model::{Answer, Call, Code, End, Outcome, Wait};
 
 // The numbers in a decision are valid, and its case says what holds of the rows (specs: `Ready`). `task` is the task that stands at the head.
-#[derive(Drop)]
+#[derive(Clone, Copy)]
 pub enum Decision {
     // Refused: the very state, no words.
     Refuse(Code),

@@ -32,7 +32,7 @@ const PRIORITIES: u32 = PRIORITY_LIMIT as u32;
 
 // ── What is seen of the rows in view ──
 
-#[derive(Drop)]
+#[derive(Clone, Copy)]
 pub struct TaskSeen {
     pub defined: bool,
     pub suspended: bool,
@@ -43,7 +43,7 @@ pub struct TaskSeen {
 }
 
 // The heads of the two wait queues; 0 for none.
-#[derive(Drop)]
+#[derive(Clone, Copy)]
 pub struct QueueSeen {
     pub defined: bool,
     pub attribute: u8,
@@ -55,7 +55,7 @@ pub struct QueueSeen {
 }
 
 // The head waiter and the head message; 0 for none.
-#[derive(Drop)]
+#[derive(Clone, Copy)]
 pub struct MailboxSeen {
     pub defined: bool,
     pub attribute: u8,
@@ -64,7 +64,7 @@ pub struct MailboxSeen {
     pub message: u8,
 }
 
-#[derive(Drop)]
+#[derive(Clone, Copy)]
 pub struct Seen {
     // Whether the record is sound. All else is shown of a sound record alone.
     pub sound: bool,

@@ -11,7 +11,7 @@ pub const VERSION: u32 = 1500;
 
 // A call with its context. Its numbers are wide, so that none that is too large, or negative, is cut down to a task's or an object's.
 #[repr(C)]
-#[derive(Drop)]
+#[derive(Clone, Copy)]
 pub struct HostCall {
     pub number: u32,
     pub caller: u32,
@@ -26,7 +26,7 @@ pub struct HostCall {
 
 // An answer in document 01's numbers.
 #[repr(C)]
-#[derive(Drop)]
+#[derive(Clone, Copy)]
 pub struct HostAnswer {
     // 0 finished, 1 waits.
     pub kind: u32,

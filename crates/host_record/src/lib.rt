@@ -25,7 +25,7 @@ use record::{State, Step};
 
 // Cell n belongs to number n, as in `State`. What is made of words comes before what is made of bytes, and every byte belongs to a field.
 #[repr(C)]
-#[derive(Drop)]
+#[derive(Clone, Copy)]
 pub struct HostRecord {
     pub counter: u32,
     pub tasks: [HostTask; TASK_CELLS],
@@ -123,7 +123,7 @@ pub fn empty() -> HostRecord
 
 // Bit n - 1 of each number stands for task n.
 #[repr(C)]
-#[derive(Drop)]
+#[derive(Clone, Copy)]
 pub struct TaskSets {
     pub waiting: u32,
     pub runnable: u32,
@@ -214,7 +214,7 @@ pub fn answered(stepped: Step) -> HostAnswer
 // ── The parts of a table of calls on a lent record; crate linguastel_table puts them together ──
 
 // The code of a table, and whether its calls are made.
-#[derive(Drop)]
+#[derive(Clone, Copy)]
 pub struct HostTableTest {
     pub code: i32,
     pub runs: bool,

@@ -14,7 +14,7 @@ const E_OK: i32 = 0;
 
 // What a replay keeps between two blocks. What is made of longer numbers comes before what is made of shorter ones, and every byte belongs to a field.
 #[repr(C)]
-#[derive(Drop)]
+#[derive(Clone, Copy)]
 pub struct HostReplay {
     // Three of the line's numbers.
     pub records: u64,
@@ -28,7 +28,7 @@ pub struct HostReplay {
 }
 
 // The replay after a block, the code of the block, and whether it was taken.
-#[derive(Drop)]
+#[derive(Clone, Copy)]
 pub struct HostFed {
     pub replay: HostReplay,
     pub code: i32,
@@ -37,7 +37,7 @@ pub struct HostFed {
 
 // The line's four numbers, and the code of the end. The spare word is 0.
 #[repr(C)]
-#[derive(Drop)]
+#[derive(Clone, Copy)]
 pub struct HostLine {
     pub records: u64,
     pub differ: u64,

@@ -12,7 +12,7 @@ const NO_QUEUE: u8 = 255;
 
 // A task's numbers; no byte of them is without a name. Its priority and the number behind it stand with the chains.
 #[repr(C)]
-#[derive(Drop)]
+#[derive(Clone, Copy)]
 pub struct HostTask {
     // The stored pair's word.
     pub word: u32,

@@ -11,13 +11,13 @@ use model::{CALL_LIMIT, Call, Code};
 use record::{State, Step};
 
 // A method must stand in the crate of its type, so the step is a method of a type that holds the state.
-#[derive(Drop)]
+#[derive(Clone, Copy)]
 pub struct Kernel {
     pub state: State,
 }
 
 // What a call comes to, and whether that changes anything.
-#[derive(Drop)]
+#[derive(Clone, Copy)]
 pub struct Judgement {
     pub decision: Decision,
     pub changes: bool,

@@ -29,7 +29,7 @@ const ADVANCE: u8 = 2;
 // ── Records ──
 
 // The next record of the input, and how many of its bytes there were: fewer than a record's at the end.
-#[derive(Drop)]
+#[derive(Clone, Copy)]
 struct Read {
     bytes: [u8; RECORD_BYTES],
     got: usize,

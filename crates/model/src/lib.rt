@@ -28,7 +28,7 @@ pub const END_LIMIT: u32 = 2147483647;
 pub const TABLE_LIMIT: usize = 64;
 
 // A call with its context: the call's fields of the 32-byte record that units write (document 02, item 3), its two flags apart.
-#[derive(Drop)]
+#[derive(Clone, Copy)]
 pub struct Call {
     // The number in document 01's table of calls.
     pub number: u8,
@@ -49,7 +49,7 @@ pub struct Call {
 }
 
 // E_OK and the errors. specs/Codes.antt gives each its number.
-#[derive(Drop)]
+#[derive(Clone, Copy)]
 pub enum Code {
     Ok,
     Sys,
@@ -65,7 +65,7 @@ pub enum Code {
     Dlt,
 }
 
-#[derive(Drop)]
+#[derive(Clone, Copy)]
 pub enum Outcome {
     Finished(Code),
     // The place: how many waiters stay ahead.
@@ -73,7 +73,7 @@ pub enum Outcome {
 }
 
 // The words are 0 where document 01 names none.
-#[derive(Drop)]
+#[derive(Clone, Copy)]
 pub struct Answer {
     pub outcome: Outcome,
     pub a: u32,
@@ -82,7 +82,7 @@ pub struct Answer {
 }
 
 // When a wait ends by itself.
-#[derive(Drop)]
+#[derive(Clone, Copy)]
 pub enum End {
     Never,
     // In the tick that brings the counter here.
@@ -90,7 +90,7 @@ pub enum End {
 }
 
 // What a task waits for.
-#[derive(Drop)]
+#[derive(Clone, Copy)]
 pub enum Wait {
     NoWait,
     Sending { queue: u8, end: End, word: u32 },

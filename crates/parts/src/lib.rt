@@ -32,7 +32,7 @@ pub const QUEUE_CELLS: usize = QUEUE_LIMIT as usize + 1;
 pub const MAILBOX_CELLS: usize = MAILBOX_LIMIT as usize + 1;
 
 // A task says which wait it is in. Its priority and the number behind it stand in the cells of the same number of the table of waiting tasks.
-#[derive(Drop)]
+#[derive(Clone, Copy)]
 pub struct Task {
     pub wait: Wait,
     // The stored pair: what the last wait ended with.
@@ -45,7 +45,7 @@ pub struct Task {
 
 // Hosts in other languages lend records that hold this struct and the next, so both are numbers alone, and no byte of them is without a name.
 #[repr(C)]
-#[derive(Drop)]
+#[derive(Clone, Copy)]
 pub struct Queue {
     pub ring: Ring,
     // 1 or 0.
@@ -57,7 +57,7 @@ pub struct Queue {
 }
 
 #[repr(C)]
-#[derive(Drop)]
+#[derive(Clone, Copy)]
 pub struct Mailbox {
     // 1 or 0.
     pub defined: u8,

@@ -13,7 +13,7 @@ use ring::Ring;
 
 // Cell n of `tasks`, `queues`, `mailboxes` and of the keys belongs to number n, and so do the links up to the last number; behind them stand the
 // heads of the chains. Cell 0 is nobody's. So a task's record is its cells in `tasks` and `waiting`, and a message's its cells in `messages`.
-#[derive(Drop)]
+#[derive(Clone, Copy)]
 pub struct State {
     pub counter: u32,
     pub tasks: [Task; TASK_CELLS],
@@ -26,7 +26,7 @@ pub struct State {
 }
 
 // What a step hands back: the changed state, together with the answer.
-#[derive(Drop)]
+#[derive(Clone, Copy)]
 pub struct Step {
     pub state: State,
     pub answer: Answer,

@@ -24,7 +24,7 @@ const FINISHED: u8 = 0;
 const WAITS: u8 = 1;
 
 // The answer as it was recorded.
-#[derive(Drop)]
+#[derive(Clone, Copy)]
 pub struct Recorded {
     // 0 finished, 1 waits.
     pub kind: u8,
@@ -35,7 +35,7 @@ pub struct Recorded {
     pub c: u32,
 }
 
-#[derive(Drop)]
+#[derive(Clone, Copy)]
 pub enum Decoded {
     // The record isn't run: its call, its kind or one of its flags is unknown, or a spare byte isn't 0.
     NotRun,

@@ -41,7 +41,7 @@ fn show_progress(replay: Replay, reads_left: u64) {
 }
 
 // The replay after a read, and whether there may be more to read.
-#[derive(Drop)]
+#[derive(Clone, Copy)]
 struct After {
     replay: Replay,
     goes_on: bool,

@@ -17,7 +17,7 @@ use record::{State, Step};
 use recording::{Decoded, RECORD_BYTES, Recorded};
 
 // Three of the line's numbers.
-#[derive(Drop)]
+#[derive(Clone, Copy)]
 pub struct Tally {
     pub records: u64,
     pub differ: u64,
@@ -26,7 +26,7 @@ pub struct Tally {
 }
 
 // What the replay keeps between two blocks.
-#[derive(Drop)]
+#[derive(Clone, Copy)]
 pub struct Replay {
     pub state: State,
     pub tally: Tally,
@@ -36,14 +36,14 @@ pub struct Replay {
 }
 
 // What a block gave: E_OK, or E_SYS or E_PAR with the replay as it was.
-#[derive(Drop)]
+#[derive(Clone, Copy)]
 pub struct Fed {
     pub replay: Replay,
     pub code: Code,
 }
 
 // The line at the end of the recording with E_OK, or E_SYS with four zeros.
-#[derive(Drop)]
+#[derive(Clone, Copy)]
 pub struct Ended {
     pub code: Code,
     pub tally: Tally,
@@ -52,7 +52,7 @@ pub struct Ended {
 }
 
 // What a record comes to on a state: the call's decision, whether that changes anything, and the answer to compare with.
-#[derive(Drop)]
+#[derive(Clone, Copy)]
 pub struct Reading {
     pub decision: Decision,
     pub changes: bool,

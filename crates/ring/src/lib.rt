@@ -11,7 +11,7 @@ const PLACE_LIMIT: u8 = 16;
 pub const PLACES: usize = PLACE_LIMIT as usize;
 
 #[repr(C)]
-#[derive(Drop)]
+#[derive(Clone, Copy)]
 pub struct Ring {
     pub words: [u32; PLACES],
     pub head: u8,
@@ -22,7 +22,7 @@ pub struct Ring {
 }
 
 // The oldest word, and the ring without it.
-#[derive(Drop)]
+#[derive(Clone, Copy)]
 pub struct Taken {
     pub word: u32,
     pub ring: Ring,

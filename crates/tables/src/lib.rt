@@ -15,7 +15,7 @@ use model::{Answer, CALL_LIMIT, Call, Code, TABLE_LIMIT};
 use record::{State, Step};
 
 // The code of a table, and whether its calls are made.
-#[derive(Drop)]
+#[derive(Clone, Copy)]
 pub struct TableTest {
     pub code: Code,
     pub runs: bool,
