@@ -11,8 +11,8 @@ pub returns-in-Finished : goal.returns-in-Finished
 unfolding answer_of
 returns-in-Finished c =
     let fits : SFits w32 c.number_of.result = search rules in
-    rw (to_z-of_z fits, c.number_of.ensures, c.outcome-1.given.1) refl
+    rw (to_z-of_z fits, c.number_of.ensures, c.in-Finished.is) refl
 
 pub returns-in-Waits : goal.returns-in-Waits
 unfolding answer_of
-returns-in-Waits c = rw c.outcome-in-Waits-1.given.1 refl
+returns-in-Waits c = rw c.in-Waits.is refl
