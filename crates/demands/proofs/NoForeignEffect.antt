@@ -115,7 +115,7 @@ module _ (K : Key → Type 0) where
     run_spares {s} sound shut (both {x = c} own owns) (one_call {after = after} h rest) =
         let f = follows (faithful.steps h).stepped sound in
         let k = subst (λ n. Spares K (E.abs s) n × Closed NamedIn K n.rows) (sym f.meaning_is) (call_spares (E.abs s) (F.call_of c) own shut) in
-        let l = run_spares f.sound k.1 owns rest in
+        let l = run_spares {s = after} f.sound k.1 owns rest in
         record { rows = λ j n. l.rows j n ∙ k.0.rows j n; environment = l.environment ∙ k.0.environment }
 
 pub no_foreign_effect : {S C A : Type 0} {E : Engine S} → Lawful E → {F : Interface S C A} → Faithful E F → NoForeignEffect E F

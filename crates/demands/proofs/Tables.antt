@@ -86,10 +86,14 @@ module _ {C A K : Type 0} (call_of : C → Call) (answer_of : Answer → A) (cod
     row = calls_in call_of;
     no_entry = refl;
     one_entry = λ e es. refl;
-    state_is = λ m e. elim e [ a_call c ↦ refl | a_table calls cells ↦ refl ];
+    state_is = same_end;
     by_answers = same_given;
   }
     where
+      same_end : (m : Model) (e : Entry C A) → (entry_step m e).state ≡ end step m (calls_in call_of e)
+      same_end m (a_call c) = refl
+      same_end m (a_table calls cells) = refl
+
       same_given : (m n : Model) (e : Entry C A) → answers step m (calls_in call_of e) ≡ answers step n (calls_in call_of e) → (entry_step m e).answer ≡ (entry_step n e).answer
       same_given m n (a_call c) h = ap (λ x. an_answer (answer_of x)) (head-eq_of_cons-eq h)
       same_given m n (a_table calls cells) h = ap (table_given calls cells) h
@@ -116,7 +120,7 @@ module _ {S C A K : Type 0} {E : Engine S} (lawful : Lawful E) {F : Interface S 
 
   pub isolated_with_tables : IsolatedWithTables G E
   isolated_with_tables s sound a b placed_a placed_b xs ys two =
-      undisturbed lawful entries_as_defined made (given_values F.values_of G.number_of_lem) s sound a b placed_a placed_b xs ys
+      undisturbed lawful entries_as_defined made (given_values F.values_of G.number_of) s sound a b placed_a placed_b xs ys
       (record { disjoint = two.disjoint; calls_of_a = each_flat two.calls_of_a; calls_of_b = each_flat two.calls_of_b })
 
   pub isolated_with_tables_from_empty : IsolatedWithTablesFromEmpty G E
@@ -124,7 +128,7 @@ module _ {S C A K : Type 0} {E : Engine S} (lawful : Lawful E) {F : Interface S 
 
   pub isolated_many_with_tables : IsolatedManyWithTables G E
   isolated_many_with_tables I same_owner s sound o lists placed own =
-      all_undisturbed lawful entries_as_defined made (given_values F.values_of G.number_of_lem) I same_owner s sound o lists placed (λ i. each_flat (own i))
+      all_undisturbed lawful entries_as_defined made (given_values F.values_of G.number_of) I same_owner s sound o lists placed (λ i. each_flat (own i))
 
 -- ── Lists of calls as lists of entries ──
 
@@ -184,7 +188,7 @@ module _ {S C A K : Type 0} {F : Interface S C A} (G : Tables F K) (E : Engine S
     end_sound = λ m p. h.end_sound (merge_map a_call m) (run_of_entries p);
   }
     where
-      h : Undisturbed E (EntrySteps G) (given_values F.values_of G.number_of_lem) s (map a_call xs) (map a_call ys)
+      h : Undisturbed E (EntrySteps G) (given_values F.values_of G.number_of) s (map a_call xs) (map a_call ys)
       h = isolated s sound a b placed_a placed_b (map a_call xs) (map a_call ys)
           (record { disjoint = two.disjoint; calls_of_a = each_entry two.calls_of_a; calls_of_b = each_entry two.calls_of_b })
 
@@ -199,7 +203,7 @@ module _ {S C A K : Type 0} {F : Interface S C A} (G : Tables F K) (E : Engine S
     end_sound = λ {turns} m p. h.end_sound (read turns m) (turns_of_entries p);
   }
     where
-      h : AllUndisturbed same_owner E (EntrySteps G) (given_values F.values_of G.number_of_lem) s (λ i. map a_call (lists i))
+      h : AllUndisturbed same_owner E (EntrySteps G) (given_values F.values_of G.number_of) s (λ i. map a_call (lists i))
       h = isolated I same_owner s sound o (λ i. map a_call (lists i))
           (λ i calling. placed i (λ e. calling (ap (λ l. flat_map (calls_in {A = A} F.call_of) (map a_call l)) e))) (λ i. each_entry (own i))
 

@@ -22,19 +22,19 @@ pub record Tables {S C A : Type 0} (F : Interface S C A) (K : Type 0) : Type 1 w
 -- ── A table on a sound record is the definition's ──
 
 -- Code, state and every answer cell. The new record is sound, so the calls of a table need one test of the record, not one each.
-pub record TableFollows {S C A K : Type 0} (E : Engine S) (call_of : C → Call) (answer_of : Answer → A) (code_of_lem : Code → K) (s : S) (calls : List C)
+pub record TableFollows {S C A K : Type 0} (E : Engine S) (call_of : C → Call) (answer_of : Answer → A) (code_of : Code → K) (s : S) (calls : List C)
     (cells : List A) (after : S) (given : List A) (code : K) : Type 0 where
-  pub code_is : code ≡ code_of_lem (table_code (length calls) (length cells))
+  pub code_is : code ≡ code_of (table_code (length calls) (length cells))
   pub meaning_is : E.abs after ≡ (table_step (E.abs s) (map call_of calls) (length cells)).state
   pub cells_are : given ≡ map answer_of (table_step (E.abs s) (map call_of calls) (length cells)).answer
       ++ drop (length (calls_made (map call_of calls) (length cells))) cells
   pub sound : E.Sound after
 
 abbrev pub TablesFollow : {S : Type 0} → Engine S → {C A K : Type 0} → (C → Call) → (Answer → A) → (Code → K) → Type 0
-TablesFollow {S} E {C} {A} {K} call_of answer_of code_of_lem =
+TablesFollow {S} E {C} {A} {K} call_of answer_of code_of =
     (s : S) (calls : List C) (cells : List A) (after : S) (given : List A) (code : K)
-    → TableMade E call_of answer_of code_of_lem s calls cells after given code → E.Sound s
-    → TableFollows E call_of answer_of code_of_lem s calls cells after given code
+    → TableMade E call_of answer_of code_of s calls cells after given code → E.Sound s
+    → TableFollows E call_of answer_of code_of s calls cells after given code
 
 -- ── Lists whose entries are calls and tables ──
 

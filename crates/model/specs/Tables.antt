@@ -53,18 +53,18 @@ table_step m calls cells = in_a_row step m (calls_made calls cells)
 -- ── What a table on a record promises, whatever kind of record it is ──
 
 -- `calls` and `cells` are the two tables as they are lent; the record was found as s and left as `after`, the answer table left as `given`, and the code given.
--- As calls may be written otherwise, so may codes: `code_of_lem` says how.
-module _ {S C A K : Type 0} (E : Engine S) (call_of : C → Call) (answer_of : Answer → A) (code_of_lem : Code → K) (s : S) (calls : List C) (cells : List A)
+-- As calls may be written otherwise, so may codes: `code_of` says how.
+module _ {S C A K : Type 0} (E : Engine S) (call_of : C → Call) (answer_of : Answer → A) (code_of : Code → K) (s : S) (calls : List C) (cells : List A)
     (after : S) (given : List A) (code : K) where
   -- Nothing is done, and the answer table keeps its contents.
   pub record NothingDone (refusal : Code) : Type 0 where
-    pub code_is : code ≡ code_of_lem refusal
+    pub code_is : code ≡ code_of refusal
     pub state_is : after ≡ s
     pub cells_are : given ≡ cells
 
   -- State and answers are those of the calls made singly, first to last, refused ones too. Cells past the last call keep theirs.
   pub record AllMade : Type 0 where
-    pub code_is : code ≡ code_of_lem E_OK
+    pub code_is : code ≡ code_of E_OK
     pub answers : List A
     pub run : Run (SteppedAs E (λ c. in_table (call_of c)) answer_of) s calls after answers
     pub cells_are : given ≡ answers ++ drop (length calls) cells

@@ -87,10 +87,10 @@ enough calls cells n = nltb→le cells calls (neither_right (ltb table_limit cal
 
 -- ── The whole table, on any engine's record h whose soundness is that of the state s ──
 
-module _ {S C A K : Type 0} (E : Engine S) (call_of : C → Call) (answer_of : Answer → A) (code_of_lem : Code → K) (h : S) (s : State) (to : E.Sound h → Sound s) (back : Sound s → E.Sound h) (calls : List C) (cells : List A) {code : K} {runs : Bool}
-    (tested : TestedAs code_of_lem s (length calls) (length cells) code runs) where
+module _ {S C A K : Type 0} (E : Engine S) (call_of : C → Call) (answer_of : Answer → A) (code_of : Code → K) (h : S) (s : State) (to : E.Sound h → Sound s) (back : Sound s → E.Sound h) (calls : List C) (cells : List A) {code : K} {runs : Bool}
+    (tested : TestedAs code_of s (length calls) (length cells) code runs) where
   -- The test refuses.
-  pub table_refused : T (not runs) → TableMade E call_of answer_of code_of_lem h calls cells h cells code
+  pub table_refused : T (not runs) → TableMade E call_of answer_of code_of h calls cells h cells code
   table_refused n = record {
     unsound = λ f. record { code_is = tested.unsound (λ sound. f (back sound)); state_is = refl; cells_are = refl };
     outside = λ sound t. record { code_is = tested.outside (to sound) t; state_is = refl; cells_are = refl };
@@ -98,7 +98,7 @@ module _ {S C A K : Type 0} (E : Engine S) (call_of : C → Call) (answer_of : A
   }
 
   -- It lets the calls be made, and they are.
-  pub table_ran : T runs → {after : S} {given : List A} → Ran (SteppedAs E (λ c. in_table (call_of c)) answer_of) 0 h calls cells after given → TableMade E call_of answer_of code_of_lem h calls cells after given code
+  pub table_ran : T runs → {after : S} {given : List A} → Ran (SteppedAs E (λ c. in_table (call_of c)) answer_of) 0 h calls cells after given → TableMade E call_of answer_of code_of h calls cells after given code
   table_ran t r =
       let p = passed_test tested.runs_is t in
       record {

@@ -7,11 +7,11 @@ use Rattle.model.specs.declared.Code.TheVariants.{Ok as E_OK, Par as E_PAR, Sys 
 use Rattle.record.specs.declared.State.{State}
 use Rattle.record.specs.Sound.{Sound}
 
--- The code, written by `code_of_lem`, and whether the calls are made: in the last of the three cases.
-pub record TestedAs {K : Type 0} (code_of_lem : Code → K) (s : State) (calls cells : ℕ) (code : K) (runs : Bool) : Type 0 where
-  pub unsound : (Sound s → ⊥) → code ≡ code_of_lem E_SYS
-  pub outside : Sound s → T (table_outside calls cells) → code ≡ code_of_lem E_PAR
-  pub otherwise : Sound s → T (not (table_outside calls cells)) → code ≡ code_of_lem E_OK
+-- The code, written by `code_of`, and whether the calls are made: in the last of the three cases.
+pub record TestedAs {K : Type 0} (code_of : Code → K) (s : State) (calls cells : ℕ) (code : K) (runs : Bool) : Type 0 where
+  pub unsound : (Sound s → ⊥) → code ≡ code_of E_SYS
+  pub outside : Sound s → T (table_outside calls cells) → code ≡ code_of E_PAR
+  pub otherwise : Sound s → T (not (table_outside calls cells)) → code ≡ code_of E_OK
   pub runs_is : Whether (Sound s × T (not (table_outside calls cells))) runs
 
 abbrev pub Tested : State → ℕ → ℕ → Code → Bool → Type 0
