@@ -3,16 +3,17 @@
 // its byte 0, and gives the counter, in its bytes 4 to 7; the next make the record through the entry; those behind the mark are played as the first
 // says, as often as the input has them. It prints a checksum of their answers.
 #![tactic(auto)]
+
 ghost use Rattle.std.specs.Prelude.{◌≡◌, length};
 ghost use Rattle.record.specs.Sound.{Sound};
 ghost use Rattle.record.specs.Step.{Stepped};
 
 use kernel::Kernel;
-use libc::{STDIN_FILENO, STDOUT_FILENO};
 use model::{Answer, Call, Code, Outcome, Wait};
 use parts::{OK, Task};
 use record::{State, Step};
 use recording::RECORD_BYTES;
+use std::io;
 
 // A record with this number is no call: it is the mark.
 const MARK: u8 = 255;
@@ -28,19 +29,20 @@ const ADVANCE: u8 = 2;
 
 // ── Records ──
 
-// The next record of the input, and how many of its bytes there were: fewer than a record's at the end.
+// The next record of the input, and whether all of its bytes were there: not so at the end.
 #[derive(Clone, Copy)]
 struct Read {
     bytes: [u8; RECORD_BYTES],
-    got: usize,
+    is_whole: bool,
 }
 
-fn read_record() -> Read
+// A read that fails is the end too. One that a signal interrupts is made again.
+fn read_record(input: &mut impl io::Read) -> Read
     ensures { 32 ≡ length result.bytes }
 {
     let mut bytes = [0u8; RECORD_BYTES];
-    let got = io::read_full(STDIN_FILENO, &mut bytes);
-    Read { bytes, got }
+    let is_whole = input.read_exact(&mut bytes).is_ok();
+    Read { bytes, is_whole }
 }
 
 // ── The checksum ──
@@ -137,25 +139,23 @@ fn advance(state: State, call: Call) -> Step
     Kernel { state }.advance(call)
 }
 
-// The records up to the mark, each through the entry. A proved loop has to end, and nothing says that the input does: so the turns are counted down.
-fn set_up(counter: u32) -> State
+// The records up to the mark, each through the entry. A proved loop has to end, and nothing says that the input does: so the turns are counted.
+fn set_up(input: &mut impl io::Read, counter: u32) -> State
     ensures { Sound result }
 {
     let mut state = started(counter);
-    let mut turns = u64::MAX;
-    while 0 < turns {
-        let read = read_record();
+    for _ in 0..u64::MAX {
+        let read = read_record(input);
         let record = read.bytes;
         let number = record[0];
         if number == MARK {
             return state;
         }
-        if read.got < RECORD_BYTES {
+        if !read.is_whole {
             return state;
         }
         let done = through(state, recording::call_of(&record));
         state = done.state;
-        turns -= 1;
     }
     state
 }
@@ -185,15 +185,14 @@ fn lap(state: State, call: Call, how: u8) -> Step
 }
 
 // The records behind the mark, and the checksum of their answers.
-fn play(start: State, how: u8) -> u32
+fn play(input: &mut impl io::Read, start: State, how: u8) -> u32
     requires { Sound start }
 {
     let mut state = start;
     let mut sum: u32 = 1;
-    let mut turns = u64::MAX;
-    while 0 < turns {
-        let read = read_record();
-        if read.got < RECORD_BYTES {
+    for _ in 0..u64::MAX {
+        let read = read_record(input);
+        if !read.is_whole {
             return sum;
         }
         let record = read.bytes;
@@ -201,16 +200,16 @@ fn play(start: State, how: u8) -> u32
         let answer = done.answer;
         state = done.state;
         sum = with_answer(sum, answer);
-        turns -= 1;
     }
     sum
 }
 
-fn main() {
-    let first = read_record();
+fn main(rt: HostRuntime) -> io::Result<()> {
+    let mut input = rt.stdin();
+    let first = read_record(&mut input);
     let record = first.bytes;
     let how = record[0];
-    let start = set_up(recording::word_at(&record, 4));
-    io::print_decimal(STDOUT_FILENO, play(start, how) as u64);
-    io::write_all(STDOUT_FILENO, b"\n");
+    let start = set_up(&mut input, recording::word_at(&record, 4));
+    let sum = play(&mut input, start, how);
+    println!(rt; "{sum}")
 }

@@ -1,43 +1,43 @@
 // Replays a recording (document 02, item 3): reads it from standard input to its end, in blocks (item 5), and prints the line. Where a read fails, or a block or
 // the end is refused, it says so on standard error and prints no line.
 #![tactic(auto)]
-use libc::{EINTR, STDERR_FILENO, STDIN_FILENO, STDOUT_FILENO};
+
 use model::Code;
 use replays::{Ended, Replay};
+use std::io;
+use std::io::{ErrorKind, IsTerminal, Read, Write};
 
 // After so many reads a terminal is shown how far the replay is.
 const READS_BETWEEN: u64 = 4096;
 
-// A number with its name, and whether it could be written.
-fn print_named(file: i32, name: &[u8], number: u64) -> bool {
-    if !io::write_all(file, name) {
-        return false;
-    }
-    io::print_decimal(file, number)
+// The bytes of one read at most.
+const BUFFER: usize = 65536;
+
+// A number with its name, or why it could not be written.
+fn print_named<W: Write>(file: &mut W, name: &str, number: u64) -> io::Result<()> {
+    write!(file, "{name} {number}")
 }
 
-// The line, and whether it could be written.
-fn print_line(line: Ended) -> bool {
+// The line, or why it could not be written.
+fn print_line<W: Write>(file: &mut W, line: Ended) -> io::Result<()> {
     let tally = line.tally;
-    let counts = print_named(STDOUT_FILENO, b"records ", tally.records)
-        && print_named(STDOUT_FILENO, b" differ ", tally.differ);
-    counts
-        && print_named(STDOUT_FILENO, b" first ", tally.first)
-        && print_named(STDOUT_FILENO, b" tail ", line.tail)
-        && io::write_all(STDOUT_FILENO, b"\n")
+    print_named(file, "records", tally.records)?;
+    print_named(file, " differ", tally.differ)?;
+    print_named(file, " first", tally.first)?;
+    print_named(file, " tail", line.tail)?;
+    file.write_all(b"\n")
 }
 
 // Only a terminal is shown this, and only for a long recording.
-fn show_progress(replay: Replay, reads_left: u64) {
+fn show_progress(rt: &HostRuntime, replay: &Replay, reads_left: u64) {
     if reads_left % READS_BETWEEN != 0 {
         return;
     }
-    if libc::isatty(STDERR_FILENO) != 1 {
+    if !rt.stderr().is_terminal() {
         return;
     }
-    let tally = replay.tally;
-    print_named(STDERR_FILENO, b"records ", tally.records);
-    io::write_all(STDERR_FILENO, b" so far\n");
+    let records = replay.tally.records;
+    let _ = eprintln!(rt; "records {records} so far");
 }
 
 // The replay after a read, and whether there may be more to read.
@@ -48,85 +48,81 @@ struct After {
 }
 
 // A read that a signal interrupted before its first byte is made again. Of any other that failed a line tells why.
-fn after_failure() -> bool {
-    if os::errno() == EINTR {
+fn after_failure(rt: &impl Eprint, error: io::Error) -> bool {
+    if error.kind() == ErrorKind::Interrupted {
         return true;
     }
-    os::fail(b"standard input");
+    let _ = eprintln!(rt; "standard input: {error}");
     false
 }
 
 // Whether the code is E_OK. Of any other a line tells why; a replay that began with `new` is never refused with E_SYS.
-fn accepted(code: Code) -> bool {
+fn accepted(rt: &impl Eprint, code: Code) -> bool {
     match code {
         Code::Ok => true,
         Code::Par => {
-            io::write_all(
-                STDERR_FILENO,
-                b"standard input: more records than 64 bits count\n",
-            );
+            let _ = eprintln!(rt; "standard input: more records than 64 bits count");
             false
         }
         _ => {
-            io::write_all(STDERR_FILENO, b"the replay's state is not sound\n");
+            let _ = eprintln!(rt; "the replay's state is not sound");
             false
         }
     }
 }
 
-fn after_end(replay: Replay) {
+fn after_end(rt: &HostRuntime, replay: Replay) {
     let line = replay.end();
     let code = line.code;
-    if !accepted(code) {
+    if !accepted(rt, code) {
         return;
     }
-    if !print_line(line) {
-        os::fail(b"standard output");
+    if let Err(error) = print_line(&mut rt.stdout(), line) {
+        let _ = eprintln!(rt; "standard output: {error}");
     }
 }
 
-fn after_bytes(replay: Replay, bytes: &[u8]) -> After {
+fn after_bytes(rt: &impl Eprint, replay: Replay, bytes: &[u8]) -> After {
     let fed = replay.feed(bytes);
     let replay = fed.replay;
     let code = fed.code;
     After {
         replay,
-        goes_on: accepted(code),
+        goes_on: accepted(rt, code),
     }
 }
 
 // One read: as many bytes as there are, up to the buffer's.
-fn turn(replay: Replay) -> After {
-    let mut buffer = io::large_buffer();
-    let got = libc::read(STDIN_FILENO, &mut buffer);
-    if got < 0 {
-        return After {
-            replay,
-            goes_on: after_failure(),
-        };
-    }
-    let count = io::count(got, &buffer);
+fn turn(rt: &HostRuntime, replay: Replay) -> After {
+    let mut buffer = [0u8; BUFFER];
+    let count = match rt.stdin().read(&mut buffer) {
+        Ok(count) => count,
+        Err(error) => {
+            return After {
+                replay,
+                goes_on: after_failure(rt, error),
+            };
+        }
+    };
     if count == 0 {
-        after_end(replay);
+        after_end(rt, replay);
         return After {
             replay,
             goes_on: false,
         };
     }
-    after_bytes(replay, &buffer[..count])
+    after_bytes(rt, replay, &buffer[..count])
 }
 
 // A proved loop has to end, and nothing says that the input does. So the reads are counted down, from a number that no run uses up.
-fn main() {
+fn main(rt: HostRuntime) {
     let mut replay = Replay::new();
-    let mut reads_left = u64::MAX;
-    while 0 < reads_left {
-        let turned = turn(replay);
+    for reads_left in (0..u64::MAX).rev() {
+        let turned = turn(&rt, replay);
         if !turned.goes_on {
             return;
         }
         replay = turned.replay;
-        reads_left -= 1;
-        show_progress(replay, reads_left);
+        show_progress(&rt, &replay, reads_left);
     }
 }

@@ -1,14 +1,16 @@
 // Reads records from standard input until no whole one is left, and prints for each whether the kernel's state that it describes is sound.
 #![tactic(auto)]
+
 ghost use Rattle.std.specs.Prelude.{◌+◌, ◌<◌, ◌≤◌};
 
 use chain::{CELLS, Chains, KEY_CELLS};
 use host_tasks::HostTask;
-use libc::{STDIN_FILENO, STDOUT_FILENO};
 use model::Call;
 use parts::{MAILBOX_CELLS, Mailbox, QUEUE_CELLS, Queue, TASK_CELLS, Task};
 use record::State;
 use ring::{PLACES, Ring};
+use std::io;
+use std::io::Read;
 
 // A record's parts, each by the byte that it starts at. Numbers are little-endian.
 
@@ -221,9 +223,9 @@ fn state_of(record: &[u8; RECORD]) -> State {
     }
 }
 
-// Writes a text to standard output.
-fn print(text: &[u8]) {
-    io::write_all(STDOUT_FILENO, text);
+// Writes a text to standard output. Its bytes may be any.
+fn print(rt: &impl Print, text: &[u8]) -> io::Result<()> {
+    rt.write_all(text)
 }
 
 // Where a record's label ends.
@@ -241,19 +243,19 @@ fn label_end(record: &[u8; RECORD]) -> usize
 }
 
 // Prints a record's label.
-fn print_label(record: &[u8; RECORD]) {
+fn print_label(rt: &impl Print, record: &[u8; RECORD]) -> io::Result<()> {
     let start = LABEL_AT;
     let end = label_end(record);
     let bytes = &record[..];
-    print(&bytes[start..end]);
+    print(rt, &bytes[start..end])
 }
 
 // Prints the answer, which ends the line.
-fn print_answer(sound: bool) {
+fn print_answer(rt: &impl Print, sound: bool) -> io::Result<()> {
     if sound {
-        print(b": sound\n");
+        print(rt, b": sound\n")
     } else {
-        print(b": not sound\n");
+        print(rt, b": not sound\n")
     }
 }
 
@@ -271,23 +273,26 @@ fn any_call() -> Call {
     }
 }
 
-// Reads a record and prints its line. False where no whole record is left.
-fn answer_record() -> bool {
+// Reads a record and prints its line. False where no whole record is left. A read that fails counts as the end; one that a signal interrupts is made again.
+fn answer_record(rt: &impl Print, input: &mut impl Read) -> io::Result<bool> {
     let mut record = [0u8; RECORD];
-    if io::read_full(STDIN_FILENO, &mut record) < RECORD {
-        return false;
+    if input.read_exact(&mut record).is_err() {
+        return Ok(false);
     }
     let state = state_of(&record);
     let sound = see::see(state, any_call()).sound;
-    print_label(&record);
-    print_answer(sound);
-    true
+    print_label(rt, &record)?;
+    print_answer(rt, sound)?;
+    Ok(true)
 }
 
-// A proved loop has to end, and nothing says that the input does. So the loop counts its turns down, from a number that no run uses up.
-fn main() {
-    let mut turns = u64::MAX;
-    while 0 < turns && answer_record() {
-        turns -= 1;
+// A proved loop has to end, and nothing says that the input does. So the loop counts its turns, up to a number that no run reaches.
+fn main(rt: HostRuntime) -> io::Result<()> {
+    let mut input = rt.stdin();
+    for _ in 0..u64::MAX {
+        if !answer_record(&rt, &mut input)? {
+            break;
+        }
     }
+    Ok(())
 }

@@ -1,0 +1,6 @@
+-- `play` keeps the record sound.
+use Rattle.record.specs.Sound.{Sound}
+use Rattle.laps.proofs.play.Given as goal
+
+abbrev pub invariant-loop : goal.invariant-loop
+invariant-loop g l = Sound l.state

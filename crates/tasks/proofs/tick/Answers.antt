@@ -1,0 +1,42 @@
+-- `tick` goes from task to task. The loop keeps that what is left of the definition's program runs to what the whole runs to; the tasks left get fewer.
+use Rattle.std.proofs.Common.{◌-◌, sym, ◌∙◌, ⊎_elim, arith}
+use Rattle.waits.proofs.Ends.{removable}
+use Rattle.tasks.proofs.Turns.{ticking_begins, turn_passes, turn_endable, turn_ends, ticking_ends}
+use Rattle.tasks.proofs.tick.Goals as goal
+
+pub loop-next-init : goal.loop-next-init
+loop-next-init c = ticking_begins c.requires c.wrapping_add_u32-counter.ensures
+
+pub bounds-state-i : goal.bounds-state-i
+bounds-state-i c = let h = c.loop-next-test.true in omega arith
+
+pub remove-requires : goal.remove-requires
+remove-requires c =
+    let h = c.loop-next-test.true in
+    let a = turn_endable c.loop-next.invariant (omega arith) (sym c.due.ensures ∙ c.if-due.true) in
+    rw c.chain_named-chain.ensures (removable a, a.stands)
+
+pub bounds-state-i-then-due : goal.bounds-state-i-then-due
+bounds-state-i-then-due c = let h = c.loop-next-test.true in omega arith
+
+pub overflow_add-count : goal.overflow_add-count
+overflow_add-count c = let i = c.loop-next.invariant in let f = i.few in let h = i.high in omega arith
+
+pub overflow_add-next : goal.overflow_add-next
+overflow_add-next c = let h = c.loop-next.invariant.high in omega arith
+
+pub loop-next-smaller : goal.loop-next-smaller
+loop-next-smaller c = let h = c.loop-next-test.true in omega arith
+
+pub loop-next-preserved : goal.loop-next-preserved
+loop-next-preserved c =
+    let i = c.loop-next.invariant in
+    let h = c.loop-next-test.true in
+    let test = c.due.ensures in
+    ⊎_elim
+    (λ w. rw (w.5, w.6) (turn_ends i (omega arith) (sym test ∙ w.0.taken) (rw w.1.ensures at w.3.ensures) w.4.ensures))
+    (λ w. rw (w.1, w.2) (turn_passes i (omega arith) (sym test ∙ w.0.left)))
+    c.if-due.branch
+
+pub returns : goal.returns
+returns c = let h = c.loop-next-test.false in ticking_ends c.wrapping_add_u32-counter.ensures c.loop-next.invariant (omega arith) c.finished-answer.ensures
