@@ -130,8 +130,8 @@ fn end_for(call: Call, seen: Seen) -> End
 
 // Calls 4 to 7.
 fn send(call: Call, seen: Seen) -> Decision
-    requires le_number { 4 ≤ call.number }
-    requires number_bound { call.number ≤ 7 }
+    requires at_least { 4 ≤ call.number }
+    requires at_most { call.number ≤ 7 }
     ensures { (m : Model) → Taken m call seen → Decided m call result }
 {
     let queue = call.object;
@@ -161,8 +161,8 @@ fn send(call: Call, seen: Seen) -> Decision
 
 // Calls 8 to 10.
 fn receive(call: Call, seen: Seen) -> Decision
-    requires le_number { 8 ≤ call.number }
-    requires number_bound { call.number ≤ 10 }
+    requires at_least { 8 ≤ call.number }
+    requires at_most { call.number ≤ 10 }
     ensures { (m : Model) → Taken m call seen → Decided m call result }
 {
     let queue = call.object;
@@ -193,8 +193,8 @@ fn receive(call: Call, seen: Seen) -> Decision
 
 // Calls 2 to 11.
 fn on_queue(call: Call, seen: Seen) -> Decision
-    requires le_number { 2 ≤ call.number }
-    requires number_bound { call.number ≤ 11 }
+    requires at_least { 2 ≤ call.number }
+    requires at_most { call.number ≤ 11 }
     ensures { (m : Model) → Taken m call seen → Decided m call result }
 {
     let number = call.number;
@@ -248,8 +248,8 @@ fn send_message(call: Call, seen: Seen) -> Decision
 
 // Calls 15 to 17.
 fn receive_message(call: Call, seen: Seen) -> Decision
-    requires le_number { 15 ≤ call.number }
-    requires number_bound { call.number ≤ 17 }
+    requires at_least { 15 ≤ call.number }
+    requires at_most { call.number ≤ 17 }
     ensures { (m : Model) → Taken m call seen → Decided m call result }
 {
     let mailbox = call.object;
@@ -268,8 +268,8 @@ fn receive_message(call: Call, seen: Seen) -> Decision
 
 // Calls 12 to 18.
 fn on_mailbox(call: Call, seen: Seen) -> Decision
-    requires le_number { 12 ≤ call.number }
-    requires number_bound { call.number ≤ 18 }
+    requires at_least { 12 ≤ call.number }
+    requires at_most { call.number ≤ 18 }
     ensures { (m : Model) → Taken m call seen → Decided m call result }
 {
     let number = call.number;
@@ -317,8 +317,8 @@ fn look(row: TaskSeen) -> Decision
 
 // Calls 1 and 19 to 23.
 fn on_task(call: Call, seen: Seen) -> Decision
-    requires le_number { 1 ≤ call.number }
-    requires le_number_2 { 2 ≤ call.number → 19 ≤ call.number }
+    requires at_least { 1 ≤ call.number }
+    requires not_of_an_object { 2 ≤ call.number → 19 ≤ call.number }
     ensures { (m : Model) → Taken m call seen → Decided m call result }
 {
     let number = call.number;

@@ -24,4 +24,4 @@ overflow_add-tmout c =
 pub returns : goal.returns
 returns c =
     let fits = c.ranges.tmout in
-    ends_at _ _ c.args.tmout (rw (to_z-of_z fits) at c.if-tmout-lt0.false) (rw (to_z-of_z fits) at c.wrapping_add_u32.ensures)
+    ends_at _ _ c.args.tmout (rw (to_z-of_z fits) at c.if-tmout-lt0.false) (rw (to_z-of_z fits) at c.wrapping_add_u32.ensures.value)

@@ -11,7 +11,11 @@ pub returns-then-number-eq13 : goal.returns-then-number-eq13
 returns-then-number-eq13 c m a = deleted _ a c.if-number-eq13.true
 
 pub receive_message-requires : goal.receive_message-requires
-receive_message-requires c = (omega (arith, c.if-number-eq12.false, c.if-number-eq13.false, c.if-number-eq14.false), c.if-number-le17.true)
+receive_message-requires c =
+    record {
+      at_least = omega (arith, c.if-number-eq12.false, c.if-number-eq13.false, c.if-number-eq14.false);
+      at_most = c.if-number-le17.true;
+    }
 
 pub returns : goal.returns
 returns c m a = let above = c.if-number-le17.false in referred _ a (omega arith)

@@ -10,7 +10,8 @@ pub returns-then-number-eq3 : goal.returns-then-number-eq3
 returns-then-number-eq3 c m a = deleted _ a c.if-number-eq3.true
 
 pub send-requires : goal.send-requires
-send-requires c = (omega (arith, c.if-number-eq2.false, c.if-number-eq3.false), c.if-number-le7.true)
+send-requires c =
+    record { at_least = omega (arith, c.if-number-eq2.false, c.if-number-eq3.false); at_most = c.if-number-le7.true }
 
 pub returns : goal.returns
 returns c m a = let above = c.if-number-le10.false in referred _ a (omega arith)

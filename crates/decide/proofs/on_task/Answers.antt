@@ -21,4 +21,4 @@ returns-then-number-eq22 c m a = looked_at _ a c.if-number-eq22.true c.look.ensu
 pub returns : goal.returns
 returns c m a =
     let pre = c.requires in
-    fetched _ a (last _ pre.0 pre.1 (known _ a) c.if-number-eq1.false c.if-number-eq19.false c.if-number-eq20.false c.if-number-eq21.false c.if-number-eq22.false) refl
+    fetched _ a (last _ pre.at_least pre.not_of_an_object (known _ a) c.if-number-eq1.false c.if-number-eq19.false c.if-number-eq20.false c.if-number-eq21.false c.if-number-eq22.false) refl

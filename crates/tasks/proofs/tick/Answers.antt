@@ -5,7 +5,7 @@ use Rattle.tasks.proofs.Turns.{ticking_begins, turn_passes, turn_endable, turn_e
 use Rattle.tasks.proofs.tick.Goals as goal
 
 pub loop-next-init : goal.loop-next-init
-loop-next-init c = ticking_begins c.requires c.wrapping_add_u32-counter.ensures
+loop-next-init c = ticking_begins c.requires c.wrapping_add_u32-counter.ensures.value
 
 pub bounds-state-i : goal.bounds-state-i
 bounds-state-i c = let h = c.loop-next-test.true in omega arith
@@ -39,4 +39,4 @@ loop-next-preserved c =
     c.if-due.branch
 
 pub returns : goal.returns
-returns c = let h = c.loop-next-test.false in ticking_ends c.wrapping_add_u32-counter.ensures c.loop-next.invariant (omega arith) c.finished-answer.ensures
+returns c = let h = c.loop-next-test.false in ticking_ends c.wrapping_add_u32-counter.ensures.value c.loop-next.invariant (omega arith) c.finished-answer.ensures
