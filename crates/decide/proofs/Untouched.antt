@@ -1,9 +1,6 @@
 -- Which rows of tasks a decision leaves alone: by rules that follow its program line by line.
 use Rattle.std.proofs.Common.{◌≡◌, ℕ, Bool, true, false, not, T, eqb, ◌≢◌, List, [], ◌∷◌, sym, refl, ap, ◌∙◌, inl, inr, T_not, eq-eqb}
 use mathlib.Core.Option.{Option, none, some}
-use denote.Enum.Declared.{tag_of}
-use types.Run.{OneOf}
-use Rattle.lists.specs.Lists.{one_of}
 use Rattle.rows.specs.Program as Program
 use Rattle.rows.specs.Program.{return, get, put, get_each, update, run, Result}
 use Rattle.rows.proofs.Run.{run_get_each}
@@ -24,7 +21,6 @@ use Rattle.decide.specs.declared.Decision.{Decision}
 use Rattle.decide.specs.declared.Decision.TheVariants.{Refuse, Say, Tick, DefineTask, EndWait, Suspend, CreateQueue, DeleteQueue, Deliver, Store, Replace}
 use Rattle.decide.specs.declared.Decision.TheVariants.{TakeOldest, TakeAndRefill, TakeFromSender, CreateMailbox, DeleteMailbox, DeliverMessage, QueueMessage}
 use Rattle.decide.specs.declared.Decision.TheVariants.{TakeMessage, Join}
-use Rattle.decide.specs.contracts.Decision.{the_type}
 
 -- ── The forms of a program ──
 
@@ -146,69 +142,66 @@ by_join me ranked (AtMailbox b end) _ m r j n = same (keeps_get_each task _ _ (�
 
 -- ── The arms that the code doesn't name ──
 
--- A key is none of a list that it doesn't stand in.
-not_among : (x k : ℕ) (ks : List ℕ) → T (not (one_of x (k ∷ ks))) → OneOf (k ∷ ks) x → ⊥
-unfolding one_of
-not_among x k [] t e = T_not (eqb x k) (neither_left (eqb x k) false t) (rw (eq-eqb x k e) tt)
-not_among x k (l ∷ ks) t (inl e) = T_not (eqb x k) (neither_left (eqb x k) (one_of x (l ∷ ks)) t) (rw (eq-eqb x k e) tt)
-not_among x k (l ∷ ks) t (inr h) = not_among x l ks (neither_right (eqb x k) (one_of x (l ∷ ks)) t) h
+-- A decision that is none of those with an arm of their own in `touches`.
+pub record Unnamed (d : Decision) : Type 0 where
+  pub not_define : (t priority : ℕ) → d ≡ DefineTask t priority → ⊥
+  pub not_end_wait : (t : ℕ) → d ≡ EndWait t → ⊥
+  pub not_suspend : (t : ℕ) (suspended : Bool) → d ≡ Suspend t suspended → ⊥
+  pub not_deliver : (q t word : ℕ) → d ≡ Deliver q t word → ⊥
+  pub not_refill : (q t : ℕ) → d ≡ TakeAndRefill q t → ⊥
+  pub not_take : (q t : ℕ) → d ≡ TakeFromSender q t → ⊥
+  pub not_deliver_message : (b t g : ℕ) → d ≡ DeliverMessage b t g → ⊥
+  pub not_join : (me : ℕ) (ranked : Bool) (wait : Wait) → d ≡ Join me ranked wait → ⊥
+  pub not_tick : d ≡ Tick → ⊥
+  pub not_delete_queue : (q : ℕ) → d ≡ DeleteQueue q → ⊥
+  pub not_delete_mailbox : (b : ℕ) → d ≡ DeleteMailbox b → ⊥
 
-abbrev tag : Decision → ℕ
-tag = tag_of the_type
-
--- Those that change no task, after the first.
-abbrev without_task : List ℕ
-without_task = 1 ∷ 6 ∷ 9 ∷ 10 ∷ 11 ∷ 14 ∷ 17 ∷ 18 ∷ []
-
-pub no_task : (d : Decision) → OneOf (0 ∷ without_task) (tag d) → Touches d 0
-unfolding one_of store replace_oldest take_oldest queue_message take_message
+pub no_task : (d : Decision) → Unnamed d → Touches d 0
+unfolding store replace_oldest take_oldest queue_message take_message
 no_task (Refuse code) h _ m r j n = same keeps_return
 no_task (Say code a b c) h _ m r j n = same keeps_return
-no_task Tick h _ m r j n = absurd (not_among 2 0 without_task tt h)
-no_task (DefineTask t priority) h _ m r j n = absurd (not_among 3 0 without_task tt h)
-no_task (EndWait t) h _ m r j n = absurd (not_among 4 0 without_task tt h)
-no_task (Suspend t suspended) h _ m r j n = absurd (not_among 5 0 without_task tt h)
+no_task Tick h _ m r j n = absurd (h.not_tick refl)
+no_task (DefineTask t priority) h _ m r j n = absurd (h.not_define t priority refl)
+no_task (EndWait t) h _ m r j n = absurd (h.not_end_wait t refl)
+no_task (Suspend t suspended) h _ m r j n = absurd (h.not_suspend t suspended refl)
 no_task (CreateQueue q attribute capacity) h _ m r j n = same (keeps_put (queue q) tt keeps_return)
-no_task (DeleteQueue q) h _ m r j n = absurd (not_among 7 0 without_task tt h)
-no_task (Deliver q t word) h _ m r j n = absurd (not_among 8 0 without_task tt h)
+no_task (DeleteQueue q) h _ m r j n = absurd (h.not_delete_queue q refl)
+no_task (Deliver q t word) h _ m r j n = absurd (h.not_deliver q t word refl)
 no_task (Store q word) h _ m r j n = same (keeps_put (queue q) tt keeps_return)
 no_task (Replace q word) h _ m r j n = same (keeps_put (queue q) tt keeps_return)
 no_task (TakeOldest q) h _ m r j n = same (keeps_put (queue q) tt keeps_return)
-no_task (TakeAndRefill q t) h _ m r j n = absurd (not_among 12 0 without_task tt h)
-no_task (TakeFromSender q t) h _ m r j n = absurd (not_among 13 0 without_task tt h)
+no_task (TakeAndRefill q t) h _ m r j n = absurd (h.not_refill q t refl)
+no_task (TakeFromSender q t) h _ m r j n = absurd (h.not_take q t refl)
 no_task (CreateMailbox b attribute highest) h _ m r j n = same (keeps_put (mailbox b) tt keeps_return)
-no_task (DeleteMailbox b) h _ m r j n = absurd (not_among 15 0 without_task tt h)
-no_task (DeliverMessage b t g) h _ m r j n = absurd (not_among 16 0 without_task tt h)
+no_task (DeleteMailbox b) h _ m r j n = absurd (h.not_delete_mailbox b refl)
+no_task (DeliverMessage b t g) h _ m r j n = absurd (h.not_deliver_message b t g refl)
 no_task (QueueMessage b g priority) h _ m r j n = same (keeps_get_each message _ _ (λ keys. keeps_put (mailbox b) tt (keeps_put (message g) tt keeps_return)))
 no_task (TakeMessage b) h _ m r j n = same (keeps_put (mailbox b) tt (keeps_put (message _) tt keeps_return))
-no_task (Join me ranked wait) h _ m r j n = absurd (not_among 19 0 without_task tt h)
+no_task (Join me ranked wait) h _ m r j n = absurd (h.not_join me ranked wait refl)
 
--- Those that may change the state, after the first.
-abbrev from_3 : List ℕ
-from_3 = 3 ∷ 4 ∷ 5 ∷ 6 ∷ 7 ∷ 8 ∷ 9 ∷ 10 ∷ 11 ∷ 12 ∷ 13 ∷ 14 ∷ 15 ∷ 16 ∷ 17 ∷ 18 ∷ 19 ∷ []
-
-pub rest_changes : (d : Decision) → OneOf (2 ∷ from_3) (tag d) → true ≡ changed_by d
-unfolding one_of
-rest_changes (Refuse code) h = absurd (not_among 0 2 from_3 tt h)
-rest_changes (Say code a b c) h = absurd (not_among 1 2 from_3 tt h)
-rest_changes Tick h = refl
-rest_changes (DefineTask t priority) h = refl
-rest_changes (EndWait t) h = refl
-rest_changes (Suspend t suspended) h = refl
-rest_changes (CreateQueue q attribute capacity) h = refl
-rest_changes (DeleteQueue q) h = refl
-rest_changes (Deliver q t word) h = refl
-rest_changes (Store q word) h = refl
-rest_changes (Replace q word) h = refl
-rest_changes (TakeOldest q) h = refl
-rest_changes (TakeAndRefill q t) h = refl
-rest_changes (TakeFromSender q t) h = refl
-rest_changes (CreateMailbox b attribute highest) h = refl
-rest_changes (DeleteMailbox b) h = refl
-rest_changes (DeliverMessage b t g) h = refl
-rest_changes (QueueMessage b g priority) h = refl
-rest_changes (TakeMessage b) h = refl
-rest_changes (Join me ranked wait) h = refl
+-- What is no refusal and says nothing may change the state.
+pub rest_changes : (d : Decision) → ((code : Code) → d ≡ Refuse code → ⊥) → ((code : Code) (a b c : ℕ) → d ≡ Say code a b c → ⊥)
+    → true ≡ changed_by d
+rest_changes (Refuse code) h k = absurd (h code refl)
+rest_changes (Say code a b c) h k = absurd (k code a b c refl)
+rest_changes Tick h k = refl
+rest_changes (DefineTask t priority) h k = refl
+rest_changes (EndWait t) h k = refl
+rest_changes (Suspend t suspended) h k = refl
+rest_changes (CreateQueue q attribute capacity) h k = refl
+rest_changes (DeleteQueue q) h k = refl
+rest_changes (Deliver q t word) h k = refl
+rest_changes (Store q word) h k = refl
+rest_changes (Replace q word) h k = refl
+rest_changes (TakeOldest q) h k = refl
+rest_changes (TakeAndRefill q t) h k = refl
+rest_changes (TakeFromSender q t) h k = refl
+rest_changes (CreateMailbox b attribute highest) h k = refl
+rest_changes (DeleteMailbox b) h k = refl
+rest_changes (DeliverMessage b t g) h k = refl
+rest_changes (QueueMessage b g priority) h k = refl
+rest_changes (TakeMessage b) h k = refl
+rest_changes (Join me ranked wait) h k = refl
 
 -- ── The others leave the state alone ──
 

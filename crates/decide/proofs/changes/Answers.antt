@@ -10,4 +10,4 @@ pub returns-in-Say : goal.returns-in-Say
 returns-in-Say c = rw c.in-Say.is refl
 
 pub returns-in_default : goal.returns-in_default
-returns-in_default c = rest_changes c.args.decision c.in_default.in_default-own.keys3
+returns-in_default c = rest_changes c.args.decision c.in_default.not-Refuse c.in_default.not-Say

@@ -14,4 +14,4 @@ unfolding ran run
 returns-in-Say c n m = rw c.in-Say.is refl
 
 pub returns-in_default : goal.returns-in_default
-returns-in_default c n m = absurd (rw (← rest_changes c.args.decision c.in-Refuse.keys3) at n)
+returns-in_default c n m = absurd (rw (← rest_changes c.args.decision c.in_default.not-Refuse c.in_default.not-Say) at n)

@@ -25,7 +25,7 @@ pub returns-in-DeliverMessage : goal.returns-in-DeliverMessage
 returns-in-DeliverMessage c = rw c.in-DeliverMessage.is (by_deliver_message _ _ _)
 
 pub returns-in-Join : goal.returns-in-Join
-returns-in-Join c = let given = c.decision-in-Join-1.given in rw given.1 (by_join _ given.0.1.0 given.0.1.1.0)
+returns-in-Join c = rw c.in-Join.is (by_join _ _ _)
 
 pub returns-in-Tick : goal.returns-in-Tick
 returns-in-Tick c some = absurd (some refl)
@@ -37,4 +37,18 @@ pub returns-in-DeleteMailbox : goal.returns-in-DeleteMailbox
 returns-in-DeleteMailbox c some = absurd (some refl)
 
 pub returns-in_default : goal.returns-in_default
-returns-in_default c = no_task c.args.decision c.in-DefineTask.keys12
+returns-in_default c =
+    no_task c.args.decision
+    (record {
+      not_define = c.in_default.not-DefineTask;
+      not_end_wait = c.in_default.not-EndWait;
+      not_suspend = c.in_default.not-Suspend;
+      not_deliver = c.in_default.not-Deliver;
+      not_refill = c.in_default.not-TakeAndRefill;
+      not_take = c.in_default.not-TakeFromSender;
+      not_deliver_message = c.in_default.not-DeliverMessage;
+      not_join = c.in_default.not-Join;
+      not_tick = c.in_default.not-Tick;
+      not_delete_queue = c.in_default.not-DeleteQueue;
+      not_delete_mailbox = c.in_default.not-DeleteMailbox;
+    })

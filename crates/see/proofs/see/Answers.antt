@@ -24,13 +24,13 @@ pub loop-t-init : goal.loop-t-init
 loop-t-init c =
     let typed = c.well_formed.0.1.1 in
     let sizes : Sizes c.args.state = record {
-      tasks = rw length-map at typed.1.0.1.0.1;
-      queues = rw length-map at typed.1.1.0.1.0.1;
-      mailboxes = rw length-map at typed.1.1.1.1.1.0.1.0.1;
-      task_keys = rw length-map at typed.1.1.1.0.1.1.1.0.1.0.1;
-      message_keys = rw length-map at typed.1.1.1.1.0.1.1.1.0.1.0.1;
+      tasks = typed.1.0.1.0.1;
+      queues = typed.1.1.0.1.0.1;
+      mailboxes = typed.1.1.1.1.1.0.1.0.1;
+      task_keys = typed.1.1.1.0.1.1.1.0.1.0.1;
+      message_keys = typed.1.1.1.1.0.1.1.1.0.1.0.1;
     } in
-    let tables = went_on c.chains_sound.ensures.exact c.if-not-chains_sound.false in
+    let tables = went_on c.chains_sound.ensures.exact (ap not c.if-not-chains_sound.false) in
     let walked : Walked c.args.state = record { sizes = sizes; counter = typed.0.1; waiting = tables.0; messages = tables.1 } in
     (omega arith, omega arith, walked, record { marks_are = c.chains_sound.ensures.standing_is (c.if-not-chains_sound.false) }, below_none)
 

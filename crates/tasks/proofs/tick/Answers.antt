@@ -3,6 +3,7 @@ use Rattle.std.proofs.Common.{◌-◌, sym, ◌∙◌, ⊎_elim, arith}
 use Rattle.waits.proofs.Ends.{removable}
 use Rattle.tasks.proofs.Turns.{ticking_begins, turn_passes, turn_endable, turn_ends, ticking_ends}
 use Rattle.tasks.proofs.tick.Goals as goal
+use Rattle.tasks.proofs.tick.Goals.{then-due, else-due}
 
 pub loop-next-init : goal.loop-next-init
 loop-next-init c = ticking_begins c.requires c.wrapping_add_u32-counter.ensures.value
@@ -33,10 +34,10 @@ loop-next-preserved c =
     let i = c.loop-next.invariant in
     let h = c.loop-next-test.true in
     let test = c.due.ensures in
-    ⊎_elim
-    (λ w. rw (w.5, w.6) (turn_ends i (omega arith) (sym test ∙ w.0.taken) (rw w.1.ensures at w.3.ensures) w.4.ensures))
-    (λ w. rw (w.1, w.2) (turn_passes i (omega arith) (sym test ∙ w.0.left)))
-    c.if-due.branch
+    elim c.if-due.branch [
+      | then-due w ↦ rw (w.state-is, w.count-is) (turn_ends i (omega arith) (sym test ∙ w.if-due.true) (rw w.chain_named-chain.ensures at w.remove.ensures) w.ended-ended.ensures)
+      | else-due w ↦ rw (w.state-is, w.count-is) (turn_passes i (omega arith) (sym test ∙ w.if-due.false))
+    ]
 
 pub returns : goal.returns
 returns c = let h = c.loop-next-test.false in ticking_ends c.wrapping_add_u32-counter.ensures.value c.loop-next.invariant (omega arith) c.finished-answer.ensures
