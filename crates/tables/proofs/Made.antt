@@ -9,7 +9,7 @@ use lib.Dec.{T, T_not, ltb, nltb→le}
 use lib.ListN.{length, drop}
 use borrow.Author.Tests.{eq-eqb, ne_eqb}
 use lib.Seq.{sets, sets-eq}
-use Rattle.thin.proofs.Table.{Rest, over, turn}
+use Rattle.thin.proofs.Turns.{Rest, over, turn}
 use Rattle.rows.specs.Runs.{Run, no_call, one_call}
 use Rattle.lists.proofs.Tests.{passed_test, passes_test}
 use Rattle.model.specs.Sizes.{table_limit}

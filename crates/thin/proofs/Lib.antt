@@ -1,9 +1,1 @@
-pub mod Asked
-pub mod Lent
-pub mod Entry
-pub mod Walk
-pub mod Staged
-pub mod Table
-pub mod Filled
-pub mod Read
-pub mod Block
+pub mod Turns

@@ -1,0 +1,5 @@
+-- `judge` is the kernel's judgement, behind the test, of the call that the record is read as.
+use Rattle.tables.proofs.judge.Goals as goal
+
+pub returns : goal.returns
+returns c = record { judged = rw c.in_table.ensures at c.judge_sound-decision.ensures; changes_is = c.changes.ensures }
