@@ -1,7 +1,8 @@
-// The functions that hosts call, in C or Rust: thin entries over the record that the host lends. `rt staticlib linguastel` makes the library.
+// The functions that hosts call, in C or Rust: thin entries over the record that the host lends. Crate linguastel_c has them under their C names.
 // A function named unguarded is handed a pointer that nothing here can test for null or for its alignment: the C header's functions of the plain names test it
 // first, and safe Rust has no such pointer.
 #![tactic(auto)]
+
 ghost use Rattle.std.specs.Prelude.{◌≡◌};
 ghost use Rattle.model.specs.Rows.{empty_state};
 ghost use Rattle.host_record.specs.Record.{HostSound, meaning};
@@ -14,31 +15,27 @@ use host_calls::{HostAnswer, HostCall};
 use host_record::{HostRecord, TaskSets};
 
 // The version of this library, for a host to compare with that of its header.
-#[unsafe(no_mangle)]
-pub extern "C" fn linguastel_version() -> u32
+pub fn linguastel_version() -> u32
     ensures { result ≡ version }
 {
     host_calls::VERSION
 }
 
 // The bytes of the record, and what its address has to be a multiple of.
-#[unsafe(no_mangle)]
-pub extern "C" fn linguastel_record_size() -> usize
+pub fn linguastel_record_size() -> usize
     ensures { result ≡ record_size }
 {
     2232
 }
 
-#[unsafe(no_mangle)]
-pub extern "C" fn linguastel_record_align() -> usize
+pub fn linguastel_record_align() -> usize
     ensures { result ≡ record_align }
 {
     4
 }
 
 // Makes the record empty, whatever it held: nothing is defined, the counter is 0.
-#[unsafe(no_mangle)]
-pub extern "C" fn linguastel_unguarded_empty(lent: &mut HostRecord)
+pub fn linguastel_unguarded_empty(lent: &mut HostRecord)
     ensures { HostSound lent.new × (meaning lent.new ≡ empty_state 0) }
 {
     *lent = host_record::empty();
@@ -46,8 +43,7 @@ pub extern "C" fn linguastel_unguarded_empty(lent: &mut HostRecord)
 
 // One call, or with number 0 the tick, on whatever record is lent. A call that changes nothing, a refused one for instance, writes nothing. No tick and no
 // test of the record stands beside this: a second place from which their functions are called would make both dearer (docs/DECISIONS.md).
-#[unsafe(no_mangle)]
-pub extern "C" fn linguastel_unguarded_call(lent: &mut HostRecord, call: HostCall) -> HostAnswer
+pub fn linguastel_unguarded_call(lent: &mut HostRecord, call: HostCall) -> HostAnswer
     ensures { Called lent.old call lent.new result }
 {
     let state = host_record::state_of(*lent);
@@ -61,8 +57,7 @@ pub extern "C" fn linguastel_unguarded_call(lent: &mut HostRecord, call: HostCal
 }
 
 // Which tasks wait, and which can run. It only reads the record, and is right of whatever record is lent.
-#[unsafe(no_mangle)]
-pub extern "C" fn linguastel_unguarded_task_sets(lent: &HostRecord) -> TaskSets
+pub fn linguastel_unguarded_task_sets(lent: &HostRecord) -> TaskSets
     ensures { SetsOf lent.now result }
 {
     host_record::task_sets(*lent)

@@ -1,8 +1,9 @@
-// The replay of a recording in blocks (document 02, item 5) for hosts in C or Rust, over a record that the host lends. `rt staticlib linguastel_replay` makes a
-// library of its own: a second place from which the kernel's functions are called would make both dearer (docs/DECISIONS.md).
+// The replay of a recording in blocks (document 02, item 5) for hosts in C or Rust, over a record that the host lends. Crate linguastel_replay_c has it
+// under its C names, in a library of its own: a second place from which the kernel's functions are called would make both dearer (docs/DECISIONS.md).
 // A function named unguarded is handed a pointer that nothing here can test for null or for its alignment: the C header's functions of the plain names test it
 // first, and safe Rust has no such pointer.
 #![tactic(auto)]
+
 ghost use Rattle.std.specs.Prelude.{◌≡◌};
 ghost use Rattle.replays.specs.Files.{New};
 ghost use Rattle.host_calls.specs.Version.{version};
@@ -12,39 +13,34 @@ ghost use Rattle.host_replay.specs.Layout.{replay_size, replay_align};
 use host_replay::{HostLine, HostReplay};
 
 // The version of this library, for a host to compare with that of its header.
-#[unsafe(no_mangle)]
-pub extern "C" fn linguastel_replay_version() -> u32
+pub fn linguastel_replay_version() -> u32
     ensures { result ≡ version }
 {
     host_calls::VERSION
 }
 
 // The bytes of the record, and what its address has to be a multiple of.
-#[unsafe(no_mangle)]
-pub extern "C" fn linguastel_replay_size() -> usize
+pub fn linguastel_replay_size() -> usize
     ensures { result ≡ replay_size }
 {
     2296
 }
 
-#[unsafe(no_mangle)]
-pub extern "C" fn linguastel_replay_align() -> usize
+pub fn linguastel_replay_align() -> usize
     ensures { result ≡ replay_align }
 {
     8
 }
 
 // Makes the record a new replay, whatever it held: the empty state at counter 0, and nothing counted.
-#[unsafe(no_mangle)]
-pub extern "C" fn linguastel_unguarded_replay_empty(lent: &mut HostReplay)
+pub fn linguastel_unguarded_replay_empty(lent: &mut HostReplay)
     ensures { New (replay_of lent.new) }
 {
     *lent = host_replay::empty();
 }
 
 // One block, also of no bytes, on whatever record is lent. A refused one writes nothing.
-#[unsafe(no_mangle)]
-pub extern "C" fn linguastel_unguarded_replay_feed(lent: &mut HostReplay, block: &[u8]) -> i32
+pub fn linguastel_unguarded_replay_feed(lent: &mut HostReplay, block: &[u8]) -> i32
     ensures { BlockTaken lent.old block.now lent.new result }
 {
     let fed = host_replay::feed(*lent, block);
@@ -55,8 +51,7 @@ pub extern "C" fn linguastel_unguarded_replay_feed(lent: &mut HostReplay, block:
 }
 
 // The end of the recording, on whatever record is lent. It changes nothing, so that a host may ask for the line between two blocks as well.
-#[unsafe(no_mangle)]
-pub extern "C" fn linguastel_unguarded_replay_end(lent: &HostReplay) -> HostLine
+pub fn linguastel_unguarded_replay_end(lent: &HostReplay) -> HostLine
     ensures { LineGiven lent.now result }
 {
     host_replay::end(*lent)

@@ -1,8 +1,9 @@
-// The table of calls (document 02, item 2) for hosts in C or Rust: over the record and the two tables that the host lends. `rt staticlib linguastel_table` makes
-// a library of its own: a second place from which the kernel's functions are called would make both dearer (docs/DECISIONS.md).
+// The table of calls (document 02, item 2) for hosts in C or Rust: over the record and the two tables that the host lends. Crate linguastel_table_c has it
+// under its C name, in a library of its own: a second place from which the kernel's functions are called would make both dearer (docs/DECISIONS.md).
 // A function named unguarded is handed a pointer that nothing here can test for null or for its alignment: the C header's functions of the plain names test it
 // first, and safe Rust has no such pointer.
 #![tactic(auto)]
+
 ghost use Rattle.std.specs.Prelude.{◌≡◌};
 ghost use Rattle.host_calls.specs.Version.{version};
 ghost use Rattle.linguastel_table.specs.TableCalled.{TableCalled};
@@ -11,16 +12,14 @@ use host_calls::{HostAnswer, HostCall};
 use host_record::HostRecord;
 
 // The version of this library, for a host to compare with that of its header.
-#[unsafe(no_mangle)]
-pub extern "C" fn linguastel_table_version() -> u32
+pub fn linguastel_table_version() -> u32
     ensures { result ≡ version }
 {
     host_calls::VERSION
 }
 
 // The same walk as in crate table_entry. The tasks are read before the first call and written back after the last one.
-#[unsafe(no_mangle)]
-pub extern "C" fn linguastel_unguarded_table(
+pub fn linguastel_unguarded_table(
     lent: &mut HostRecord,
     calls: &[HostCall],
     answers: &mut [HostAnswer],
