@@ -105,7 +105,7 @@ fn play_blocks(length: usize) -> io::Result<()> {
 
 // In the order in which they take turns.
 const PROGRAMS: [(&str, &[&str]); 4] = [
-    ("proved", &["target/bin/replay"]),
+    ("proved", &["crates/replay/out/replay"]),
     ("tested", &["target/bench/replay", "play", "tested"]),
     ("untested", &["target/bench/replay", "play", "untested"]),
     ("second", &["target/bench/second_alone", "replay"]),

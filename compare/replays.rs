@@ -8,7 +8,7 @@ use std::process::{Child, ChildStdin, Command, Stdio};
 use std::time::Duration;
 
 /// From the repository's folder, in which the comparison is run.
-const PROGRAM: &str = "target/bin/replay";
+const PROGRAM: &str = "crates/replay/out/replay";
 /// Where a file is kept on which the two lines differ.
 const KEPT: &str = "target/compare";
 /// The program reads so many bytes at most at once.

@@ -2,10 +2,9 @@
  * Linguastel for hosts in C (C99, C11, C17) and C++ (C++11 to C++20): the state record, the 23 calls, the tick, tables of calls, the recording of calls, and
  * the replay of a recording in blocks. Documents 01 and 02 say what each of them does; their words are used here. docs/calls has a page for each of them.
  *
- * The library is three archives, for x86-64 and the System V calling convention. `rt staticlib linguastel` proves and writes
- * target/staticlib/liblinguastel.a, `rt staticlib linguastel_table` target/staticlib/liblinguastel_table.a, `rt staticlib linguastel_replay`
- * target/staticlib/liblinguastel_replay.a. Link the second too where linguastel_table is used, the third too where a function with linguastel_replay_ in
- * its name is used. linguastel_library_fits, linguastel_table_library_fits and linguastel_replay_library_fits say whether an archive is this header's.
+ * The library is three archives, for x86-64 and the System V calling convention, which `hosts/library` proves and writes: liblinguastel.a,
+ * liblinguastel_table.a and liblinguastel_replay.a, in target/staticlib. Link the second too where linguastel_table is used, the third too where a
+ * function with linguastel_replay_ in its name is used. linguastel_library_fits, linguastel_table_library_fits and linguastel_replay_library_fits say whether an archive is this header's.
  *
  * The header needs no hosted library: stddef.h, stdint.h and in C stdbool.h. linguastel_print.h beside it prints a record, and needs stdio.h.
  *

@@ -3,7 +3,7 @@
 # replays PROGRAM: its trace has calls, and the replay gives all their answers.
 replays() {
     local bytes calls
-    bytes=$(wc -c <"$build/$1.trace") && calls=$((bytes / 32)) && [ "$calls" -gt 0 ] && target/bin/replay <"$build/$1.trace" >"$build/$1.replay" &&
+    bytes=$(wc -c <"$build/$1.trace") && calls=$((bytes / 32)) && [ "$calls" -gt 0 ] && "$replay" <"$build/$1.trace" >"$build/$1.replay" &&
         diff <(echo "records $calls differ 0 first 0 tail 0") "$build/$1.replay" && cat "$build/$1.replay"
 }
 

@@ -1,10 +1,9 @@
 //! Linguastel for hosts in Rust: the state record, the 23 calls, the tick, tables of calls, the recording of calls, and the replay of a recording in
 //! blocks. Documents 01 and 02 say what each of them does; their words are used here. The folder docs/calls has a page for each call.
 //!
-//! The library is three archives: `rt staticlib linguastel` proves and writes target/staticlib/liblinguastel.a, `rt staticlib linguastel_table`
-//! target/staticlib/liblinguastel_table.a, which has the function behind [`Record::table`], and `rt staticlib linguastel_replay`
-//! target/staticlib/liblinguastel_replay.a, which has those behind [`Replay`]. This crate links all three; [`library_fits`] says whether they are those
-//! that it was written for. With cargo, build.rs finds them there or in the folder that LINGUASTEL_LIB names. Without cargo:
+//! The library is three archives, which `hosts/library` proves and writes: target/staticlib/liblinguastel.a; target/staticlib/liblinguastel_table.a,
+//! which has the function behind [`Record::table`]; and target/staticlib/liblinguastel_replay.a, which has those behind [`Replay`]. This crate links all
+//! three; [`library_fits`] says whether they are those that it was written for. With cargo, build.rs finds them there or in the folder that LINGUASTEL_LIB names. Without cargo:
 //! `rustc --edition 2021 --crate-type rlib -L native=target/staticlib hosts/rust/src/lib.rs`.
 //!
 //! The kernel's promise covers a record of any bytes, a call with any numbers and tables of any length, and also a replay of any bytes and a block of
