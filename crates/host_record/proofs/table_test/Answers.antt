@@ -5,21 +5,11 @@ use mir.Val.{SFits}
 use mir.Facts.{to_z-of_z}
 use Rattle.model.specs.Codes.{number}
 use borrow.Author.Rules.{rules}
-use Rattle.host_record.proofs.table_test.Statement.{statement}
-use Rattle.host_record.proofs.table_test.Tie as tie
+use Rattle.host_record.proofs.table_test.Goals as goal
 
-test-requires : tie.Need-test-requires
-test-requires c κs = search rules
-
-number-of-requires : tie.Need-number-of-requires
-number-of-requires c κs = search rules
-
-returns : tie.Need-returns
+pub returns : goal.returns
 returns c =
-    let t = c.before.test.ensures in
+    let t = c.test-tested.ensures in
     let fits : SFits w32 c.number_of.result = search rules in
     let e = to_z-of_z fits ∙ c.number_of.ensures in
     record { unsound = λ f. e ∙ ap number (t.unsound f); outside = λ S o. e ∙ ap number (t.outside S o); otherwise = λ S n. e ∙ ap number (t.otherwise S n); runs_is = t.runs_is }
-
-pub table_test_spec : {M : Type 1} → statement M
-table_test_spec = tie.close (tie.spec test-requires number-of-requires returns)

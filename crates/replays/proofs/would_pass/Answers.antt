@@ -5,19 +5,9 @@ use native.Mathlib.Omega.{arith}
 use borrow.Author.Rules.{rules}
 use Rattle.lists.proofs.Tests.{same_test, is_map, is_ltb}
 use Rattle.replays.specs.Replays.{count_limit}
-use Rattle.replays.proofs.would_pass.Statement.{statement}
-use Rattle.replays.proofs.would_pass.Tie as tie
+use Rattle.replays.proofs.would_pass.Goals as goal
 
-add-more : tie.Need-overflow-add-more
-add-more c = search rules
-
-add-more-2 : tie.Need-overflow-add-more-2
-add-more-2 c = search rules
-
-sub-result : tie.Need-overflow-sub-result
-sub-result c = search rules
-
-returns : tie.Need-returns
+pub returns : goal.returns
 returns c h =
     let args = c.args in
     let whole : args.bytes / 32 + (args.part % 32 + args.bytes % 32) / 32 ≡ (args.part + args.bytes) / 32 = omega arith in
@@ -28,6 +18,3 @@ returns c h =
 
     after : (now : ℕ) → now ≤ count_limit → {a b : ℕ} → a ≡ b → count_limit - now < a → count_limit < now + b
     after now bound e h = omega arith
-
-pub would_pass_spec : {M : Type 1} → statement M
-would_pass_spec = tie.close (tie.spec add-more add-more-2 sub-result returns)

@@ -1,0 +1,9 @@
+-- `task_sets` takes one task after the other, from the last one on.
+use Rattle.host_record.proofs.Sets.{SoFar}
+use Rattle.host_record.proofs.task_sets.Given as goal
+
+abbrev pub invariant-loop-t : goal.invariant-loop-t
+invariant-loop-t l = SoFar l.numbers l.t l.waiting l.runnable
+
+abbrev pub decreases-loop-t : goal.decreases-loop-t
+decreases-loop-t l = l.t

@@ -1,0 +1,14 @@
+-- `is_sound` is exact: each of its three tests is.
+use mathlib.Core.Path.{◌≡◌}
+use native.Mathlib.Omega.{arith}
+use lib.ListN.{length, length-map}
+use Rattle.lists.proofs.Tests.{is_map, is_and, is_ltb}
+use Rattle.replays.proofs.Replay.is_sound.Goals as goal
+
+pub returns : goal.returns
+returns c =
+    let size : length c.args.self.part ≡ 32 = rw length-map at c.well_formed.0.1.1.1.1.0.1.0.1 in
+    is_map
+    (λ p. record { sound = p.1; part_within = let h = p.0.0 in omega arith; part_size = size; possible = p.0.1 })
+    (λ S. ((let h = S.part_within in omega arith, S.possible), S.sound))
+    (is_and (is_and (is_ltb c.args.self.length 32) c.is_possible.ensures) c.sound.ensures)
