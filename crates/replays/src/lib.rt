@@ -65,7 +65,7 @@ pub struct Reading {
 
 pub fn read_record(state: State, bytes: &[u8]) -> Reading
     requires sound { Sound state }
-    requires bytes_len { length bytes.now ≡ 32 }
+    requires whole_record { length bytes.now ≡ 32 }
     ensures { ReadFrom state bytes.now result }
 {
     let decoded = recording::decode(bytes);
@@ -129,8 +129,8 @@ impl Tally {
 
     // One record more.
     fn counted(self, differs: bool) -> Tally
-        requires records_lt_count_limit { self.records < count_limit }
-        requires differ_le_records { self.differ ≤ self.records }
+        requires below_limit { self.records < count_limit }
+        requires differ_within { self.differ ≤ self.records }
         ensures { numbers_of result ≡ counted (numbers_of self) differs }
     {
         let records = self.records + 1;
@@ -172,8 +172,8 @@ fn would_pass(records: u64, part: usize, bytes: usize) -> bool
 // The part with these bytes behind those that it has.
 fn appended(part: [u8; RECORD_BYTES], has: usize, bytes: &[u8]) -> [u8; RECORD_BYTES]
     requires { has + length bytes.now ≤ 32 }
-    ensures result_len { length result ≡ 32 }
-    ensures result_value { take (has + length bytes.now) result ≡ take has part ++ bytes.now }
+    ensures as_long { length result ≡ 32 }
+    ensures joined { take (has + length bytes.now) result ≡ take has part ++ bytes.now }
 {
     let mut longer = part;
     let mut i: usize = 0;
@@ -201,7 +201,7 @@ impl Replay {
     // The bytes as if no part stood before them: their whole records are played, and the rest is kept.
     fn play(self, bytes: &[u8]) -> Replay
         requires sound_replay { SoundReplay self }
-        requires bytes_bound { self.tally.records + length bytes.now / 32 ≤ count_limit }
+        requires within_limit { self.tally.records + length bytes.now / 32 ≤ count_limit }
         ensures { AfterBytes (record { state = abs self.state; numbers = numbers_of self.tally; part = [] }) bytes.now result }
     {
         // The state stands in what the last record left, which saves a copy of it.
@@ -240,7 +240,7 @@ impl Replay {
     // A part that becomes whole is played first.
     fn take(self, block: &[u8]) -> Replay
         requires sound_replay { SoundReplay self }
-        requires block_bound { self.tally.records + (self.length + length block.now) / 32 ≤ count_limit }
+        requires within_limit { self.tally.records + (self.length + length block.now) / 32 ≤ count_limit }
         ensures { AfterBytes (meaning self) block.now result }
     {
         let length = self.length;

@@ -26,4 +26,4 @@ returns c =
     let bytes = c.args.bytes.now in
     let all : c.loop-i.i ≡ length bytes = search rules in
     let p = take c.args.has c.args.part in
-    (size, rw (← all) (so_far ∙ ap (λ l. p ++ l) (ap (λ k. take k bytes) all ∙ take-length bytes)))
+    record { as_long = size; joined = rw (← all) (so_far ∙ ap (λ l. p ++ l) (ap (λ k. take k bytes) all ∙ take-length bytes)) }

@@ -2,12 +2,13 @@
 use mathlib.Core.Path.{◌≡◌}
 use native.Mathlib.Omega.{arith}
 use lib.ListN.{length, length-map}
+use borrow.Author.Rules.{rules}
 use Rattle.lists.proofs.Tests.{is_map, is_and, is_ltb}
 use Rattle.replays.proofs.Replay.is_sound.Goals as goal
 
 pub returns : goal.returns
 returns c =
-    let size : length c.args.self.part ≡ 32 = rw length-map at c.well_formed.0.1.1.1.1.0.1.0.1 in
+    let size : length c.args.self.part ≡ 32 = search rules in
     is_map
     (λ p. record { sound = p.1; part_within = let h = p.0.0 in omega arith; part_size = size; possible = p.0.1 })
     (λ S. ((let h = S.part_within in omega arith, S.possible), S.sound))

@@ -14,8 +14,8 @@ returns-then-length-eq0 c = no_part c.args.self c.if-length-eq0.true c.play.ensu
 
 pub returns-then-block-missing : goal.returns-then-block-missing
 returns-then-block-missing c =
-    let (size, part) = c.appended-part.ensures in
-    short_block c.requires.0 (search rules) size part
+    let kept = c.appended-part.ensures in
+    short_block c.requires.sound_replay (search rules) kept.as_long kept.joined
 
 pub slice_bounds-appended-end : goal.slice_bounds-appended-end
 slice_bounds-appended-end c = sym (length-take-le _ c.args.block.now (search rules))
@@ -30,19 +30,19 @@ pub play-requires-3 : goal.play-requires-3
 play-requires-3 c =
     let args = c.args in
     let missing = 32 - args.self.length in
-    let played = part_played args.self c.appended-part-2.ensures.0 c.play-2.ensures in
+    let played = part_played args.self c.appended-part-2.ensures.as_long c.play-2.ensures in
     let one_more = played.one_more in
     let size = length-take (length args.block.now - missing) (drop missing args.block.now) in
     let left = length-drop missing args.block.now in
-    (played.sound, search rules)
+    record { sound_replay = played.sound; within_limit = search rules }
 
 pub returns : goal.returns
 returns c =
     let args = c.args in
     let missing = 32 - args.self.length in
-    let (size, part) = c.appended-part-2.ensures in
+    let joined = c.appended-part-2.ensures in
     let enough = c.if-block-missing.false in
     let taken = length-take-le missing args.block.now (omega arith) in
-    let within = c.requires.0.part_within in
+    let within = c.requires.sound_replay.part_within in
     let full : args.self.length + length (take missing args.block.now) ≡ 32 = omega arith in
-    joined_block args.self missing (whole_part _ size full part) (part_played args.self size c.play-2.ensures) c.play-3.ensures
+    joined_block args.self missing (whole_part _ joined.as_long full joined.joined) (part_played args.self joined.as_long c.play-2.ensures) c.play-3.ensures
