@@ -6,21 +6,11 @@ use mir.Facts.{to_z-of_z}
 use borrow.Author.Rules.{rules}
 use Rattle.model.specs.Codes.{number}
 use Rattle.replays.specs.Replays.{Ends}
-use Rattle.host_replay.proofs.end.Statement.{statement}
-use Rattle.host_replay.proofs.end.Tie as tie
+use Rattle.host_replay.proofs.end.Goals as goal
 
-replay-of-requires : tie.Need-replay-of-requires
-replay-of-requires c κs = search rules
-
-end-requires : tie.Need-end-requires
-end-requires c κs = search rules
-
-number-of-requires : tie.Need-number-of-requires
-number-of-requires c κs = search rules
-
-returns : tie.Need-returns
+pub returns : goal.returns
 returns c =
-    let ends = subst (λ r. Ends r c.before.before.end.result) c.before.before.before.replay_of.ensures c.before.before.end.ensures in
+    let ends = subst (λ r. Ends r c.end-ended.result) c.replay_of.ensures c.end-ended.ensures in
     let fits : SFits w32 c.number_of.result = search rules in
     let e = to_z-of_z fits ∙ c.number_of.ensures in (
       record {
@@ -29,6 +19,3 @@ returns c =
       },
       refl,
     )
-
-pub end_spec : {M : Type 1} → statement M
-end_spec = tie.close (tie.spec replay-of-requires end-requires number-of-requires returns)
