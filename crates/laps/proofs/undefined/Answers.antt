@@ -1,0 +1,8 @@
+-- `undefined` hands back a record that passed the test, or the one it was given.
+use mathlib.Core.Path.{ap}
+use mathlib.Core.Bool.{not}
+use Rattle.lists.proofs.Tests.{went_on}
+use Rattle.laps.proofs.undefined.Goals as goal
+
+pub returns : goal.returns
+returns c = went_on c.sound.ensures (ap not c.if-not-sound.false)
