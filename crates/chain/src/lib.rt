@@ -5,6 +5,7 @@
 // The functions are handed the table's size: a table has the numbers 1 to `numbers` and the chains 1 to `chains`, at most 255. A
 // table for more chains needs a larger CELLS, here and in specs/Table.antt, and no other code or proof.
 #![tactic(auto)]
+
 ghost use Rattle.std.specs.Prelude.{◌≡◌, ◌<◌, length, get_or, set};
 ghost use mathlib.Core.List.{[], head_d};
 ghost use Rattle.chain.specs.Table.{key_cells, lists, chain_of, Sound};

@@ -1,6 +1,7 @@
 // Tests of a table of chains, each exact: whether the keys of a chain are in order, for a sound table, and whether a table is sound, whatever its
 // cells hold. "Sound" is document 01's word ("A sound record").
 #![tactic(auto)]
+
 ghost use Rattle.std.specs.Prelude.{◌≡◌, [], ◌≤◌, length, get_or, replicate};
 ghost use Rattle.lists.specs.Lists.{InOrder};
 ghost use Rattle.lists.specs.Tests.{Whether};

@@ -1,6 +1,7 @@
 // What the calls on data queues do where no row of the error table refuses them (document 01, "Sending and receiving"). Each function does what the definition
 // of its name says (model: specs/DataQueues.antt).
 #![tactic(auto)]
+
 ghost use Rattle.std.specs.Prelude.{not, T};
 ghost use Rattle.lists.specs.Lists.{empty};
 ghost use Rattle.model.specs.Rows.{has_room};

@@ -1,5 +1,5 @@
 -- Which rows of tasks a decision leaves alone: by rules that follow its program line by line.
-use Rattle.std.proofs.Common.{◌≡◌, ℕ, Bool, true, false, not, T, eqb, ◌≢◌, List, [], ◌∷◌, sym, refl, ap, ◌∙◌, inl, inr, T_not, eq-eqb}
+use Rattle.std.proofs.Common.{◌≡◌, ℕ, Bool, true, ◌≢◌, List, sym, refl, ap, ◌∙◌}
 use mathlib.Core.Option.{Option, none, some}
 use Rattle.rows.specs.Program as Program
 use Rattle.rows.specs.Program.{return, get, put, get_each, update, run, Result}
@@ -14,7 +14,6 @@ use Rattle.model.specs.declared.Answer.{Answer}
 use Rattle.model.specs.declared.Code.{Code}
 use Rattle.model.specs.declared.Wait.{Wait}
 use Rattle.model.specs.declared.Wait.TheVariants.{NoWait, Sending, Receiving, AtMailbox}
-use Rattle.model.proofs.Tests.{neither_left, neither_right}
 use Rattle.decide.specs.Decisions.{ran}
 use Rattle.decide.specs.Touches.{SameTask, Touches, changed_by, LeavesAlone}
 use Rattle.decide.specs.declared.Decision.{Decision}

@@ -1,6 +1,7 @@
 // What a call comes to: refused with a code, or one of some twenty changes of the state. A pure function of the call and of what is seen of the rows that it
 // names; no state is at hand. specs/Decisions.antt says what each decision stands for.
 #![tactic(auto)]
+
 ghost use Rattle.std.specs.Prelude.{◌≡◌, ◌%◌, ◌≤◌, not, T, if◌then◌else◌};
 ghost use Rattle.model.specs.Rows.{Model};
 ghost use Rattle.model.specs.Calls as calls;

@@ -15,7 +15,6 @@ use Rattle.model.specs.Rows.{Model}
 use Rattle.model.specs.Codes.{values, finished}
 use Rattle.model.specs.Calls.{is_tick, fetches, View}
 use Rattle.model.specs.Errors.{unknown, caller_cannot_call, ErrorRow, rows_to_step_4, rows_from_step_5, error_table, some_applies, first_that_applies, refused, refusal}
-use Rattle.model.specs.Step.{step}
 use Rattle.model.specs.Refusals.{NoError}
 use Rattle.model.specs.Endings.{ended_waits}
 use Rattle.model.specs.Engine.{Engine, Lawful, RefusedWith, Stepped}

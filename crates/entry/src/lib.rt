@@ -1,5 +1,6 @@
 // The thin entry (document 01, "The kernel part we mean"): the host lends its one state record, which is changed where it stands.
 #![tactic(auto)]
+
 ghost use Rattle.record.specs.Step.{Stepped};
 ghost use Rattle.entry.specs.Entered.{Entered};
 

@@ -1,6 +1,7 @@
 // Document 01, "Error numbers and their order", as code: which row of the table refuses a call, from what is seen of the rows that the
 // call has in view. A test has the name that it has in crates/model/specs; the three rows that ask several tests have a function each.
 #![tactic(auto)]
+
 ghost use Rattle.std.specs.Prelude.{◌≡◌, true, ◌&&◌, ◌||◌};
 ghost use Rattle.model.specs.Sizes as sizes;
 ghost use Rattle.model.specs.Rows as rows;

@@ -1,5 +1,6 @@
 // A call and its answer in numbers alone, as hosts in other languages give and get them.
 #![tactic(auto)]
+
 ghost use Rattle.std.specs.Prelude.{◌≡◌};
 ghost use Rattle.model.specs.Codes.{number};
 ghost use Rattle.host_calls.specs.Calls.{byte, call_of, answer_of};

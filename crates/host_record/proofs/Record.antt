@@ -12,7 +12,7 @@ use Rattle.model.specs.Engine.{Lawful}
 use Rattle.model.specs.WellFormed.{WellFormed}
 use Rattle.lists.proofs.Reading.{all_same}
 use Rattle.decide.specs.Touches.{every_task, SameTask}
-use Rattle.parts.specs.Tasks.{task_row, read_code}
+use Rattle.parts.specs.Tasks.{task_row}
 use Rattle.parts.specs.declared.Task.{Task}
 use Rattle.host_tasks.specs.Tasks.{wait_of, read_task}
 use Rattle.record.specs.declared.State.{State}

@@ -1,15 +1,13 @@
 -- The numbers of all tasks, written one after the other; and of one alone. By what an array holds where it was changed, and elsewhere.
 use mathlib.Core.Path.{◌≡◌, refl, sym, ap, ◌∙◌, subst}
 use mathlib.Core.List.{List}
-use mathlib.Core.Logic.{◌≢◌, ◌⊎◌, ⊎_elim}
+use mathlib.Core.Logic.{◌≢◌, ⊎_elim}
 use Prim.Native.Nat.{ℕ, ◌+◌, ◌<◌, ◌≤◌}
 use native.Mathlib.Omega.{arith}
 use native.Mathlib.Decide.{ℕ_discrete}
-use lib.Dec.{T}
 use lib.ListN.{length, get_or, set, length-set}
 use lib.Seq.{get_or-set_same, get_or-set_other}
 use Rattle.model.specs.Sizes.{task_limit}
-use Rattle.model.specs.Rows.{task, valid}
 use Rattle.model.proofs.Tests.{from_within}
 use Rattle.decide.specs.Touches.{every_task}
 use Rattle.parts.specs.declared.Task.{Task}

@@ -1,6 +1,7 @@
 // The record that a host in another language lends: numbers alone. Its tasks are read as the kernel's at the border, and those that a call may have changed are
 // written back; all other parts are the kernel's own.
 #![tactic(auto)]
+
 ghost use Rattle.std.specs.Prelude.{◌≡◌, cond, ◌<◌, ◌+◌, ◌*◌};
 ghost use Rattle.model.specs.Rows.{empty_state};
 ghost use Rattle.host_record.specs.Record.{state_of, HostSound, meaning};

@@ -1,6 +1,7 @@
 // The replay of a recording (document 02, item 5) over a record that a host in another language lends: numbers alone. The kernel's state is read from the
 // host's record before a block and written back after it.
 #![tactic(auto)]
+
 ghost use Rattle.std.specs.Prelude.{◌≡◌, not, T};
 ghost use Rattle.replays.specs.Files.{New};
 ghost use Rattle.host_replay.specs.Replay.{replay_of, stored, BlockTaken, LineGiven};

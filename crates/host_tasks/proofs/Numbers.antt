@@ -1,14 +1,12 @@
 -- A part that is sound has numbers that say something: one that says nothing reads as what isn't sound.
 use mathlib.Core.Path.{◌≡◌, refl, sym, subst}
 use mathlib.Core.Bool.{Bool, true, false, cond, ◌||◌}
-use mathlib.Core.List.{List, [], ◌∷◌}
 use mathlib.Core.Logic.{◌≢◌}
 use Prim.Native.Nat.{ℕ, ◌<◌, ◌≤◌}
 use native.Mathlib.Omega.{arith}
 use native.Mathlib.Decide.{dec_lt}
-use lib.Dec.{T, eqb, ltb}
+use lib.Dec.{T, ltb}
 use borrow.Author.Tests.{lt-ltb, ne_eqb}
-use Rattle.lists.specs.Lists.{one_of}
 use Rattle.model.specs.WellFormed.{ObjectInRange, ends_a_wait, TaskWellFormed}
 use Rattle.model.specs.declared.Code.TheVariants.{Ok}
 use Rattle.parts.specs.Tasks.{task_row, read_code}

@@ -1,6 +1,7 @@
 // A task in numbers alone, as a record that a host in another language lends keeps it. The toolchain exports no reference that leads to an enum, and to a
 // program in C a tag or a Boolean is a byte that may hold anything; so every field is a number, and every number is read as something.
 #![tactic(auto)]
+
 ghost use Rattle.std.specs.Prelude.{◌≡◌, map};
 ghost use Rattle.host_tasks.specs.Tasks.{read_end, wait_of, defined_by, suspended_by, read_task, timed_of, tick_of, flags_of, write_task, same_numbers, rewritten, rewrite_all};
 

@@ -1,5 +1,6 @@
 // The kernel: any record with any call or tick, to the end. A call is judged, which changes nothing, and then its decision is applied: see, decide, apply.
 #![tactic(auto)]
+
 ghost use Rattle.std.specs.Prelude.{◌≡◌};
 ghost use Rattle.model.specs.Codes.{finished};
 ghost use Rattle.record.specs.Sound.{Sound};

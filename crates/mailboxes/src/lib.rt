@@ -2,6 +2,7 @@
 // record what that decision found (specs/Premises.antt). A task that waits for a message joins by waits::join. Chain b of the table of queued messages is
 // mailbox b's, and chain WAITERS + b of the table of waiting tasks has those that wait at it.
 #![tactic(auto)]
+
 ghost use Rattle.std.specs.Prelude.{◌≡◌, cond, ◌≤◌, T};
 ghost use Rattle.model.specs.Mailboxes.{create, delete, deliver_message, queue_message, take_message};
 ghost use Rattle.record.specs.Step.{Does};

@@ -9,7 +9,6 @@ use lib.ListN.{get_or}
 use mir.Facts.{T_not-not}
 use Rattle.lists.specs.Lists.{one_of}
 use Rattle.lists.proofs.Each.{each_of_all}
-use Rattle.rows.specs.Program as Program
 use Rattle.rows.specs.Program.{run, step_of}
 use Rattle.rows.specs.Runs.{end}
 use Rattle.model.specs.Rows.{task, same_key, TaskRow, Model}

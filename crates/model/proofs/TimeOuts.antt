@@ -10,7 +10,6 @@ use lib.Dec.{T, not_T, eqb, eqb→eq, eqb_refl}
 use mir.Facts.{yes_and}
 use Rattle.lists.specs.Lists.{one_of}
 use Rattle.lists.proofs.Tests.{is_map, is_eqb, same_test}
-use Rattle.rows.specs.Program as Program
 use Rattle.rows.specs.Runs.{end}
 use Rattle.model.specs.Sizes.{tmout_limit, counter_span}
 use Rattle.model.specs.Rows.{task, TaskRow, Model}

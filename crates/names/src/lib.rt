@@ -1,5 +1,6 @@
 // Document 01, "The calls, by number", the column "Names": what a call names, by its number.
 #![tactic(auto)]
+
 ghost use Rattle.std.specs.Prelude.{◌≡◌};
 ghost use Rattle.model.specs.Sizes as sizes;
 ghost use Rattle.model.specs.Calls as calls;

@@ -1,6 +1,7 @@
 // The tests whether a data queue and a mailbox are sound, which is document 01's word ("A sound record"): exact whatever their records hold, once
 // the chains are sound.
 #![tactic(auto)]
+
 ghost use Rattle.std.specs.Prelude.{◌≡◌, [], T, length, get_or};
 ghost use Rattle.lists.specs.Lists.{InOrder};
 ghost use Rattle.lists.specs.Tests.{Whether};

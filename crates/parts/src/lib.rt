@@ -1,6 +1,7 @@
 // The parts of the kernel's state: a task, a data queue, a mailbox, and whose each chain is. What each part means, and when it is sound, which is
 // document 01's word ("A sound record"), is in specs/. The tests are in the crates task_test and object_test.
 #![tactic(auto)]
+
 ghost use Rattle.std.specs.Prelude.{◌≡◌};
 ghost use Rattle.model.specs.Rows.{waiters_by_priority, messages_by_priority};
 ghost use Rattle.model.specs.Waits.{wait_number, wait_object, held_word, wait_end};

@@ -1,6 +1,5 @@
 -- A record in which nothing is defined and no number stands in a chain is sound and means the empty state: cell by cell.
 use mathlib.Core.Path.{◌≡◌, refl, sym, ap, subst, fun_ext}
-use mathlib.Core.Bool.{false}
 use mathlib.Core.List.Memᴰ
 use mathlib.Core.List.{[]}
 use Prim.Native.Nat.{ℕ, suc, zero-le}

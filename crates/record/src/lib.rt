@@ -1,5 +1,6 @@
 // The kernel's state as one record. Crate see has the test whether it is sound.
 #![tactic(auto)]
+
 ghost use Rattle.std.specs.Prelude.{◌≡◌};
 ghost use Rattle.model.specs.Codes.{finished};
 ghost use Rattle.model.specs.Rows.{empty_state};

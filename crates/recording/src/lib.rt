@@ -1,5 +1,6 @@
 // A call with its answer in the 32 bytes that a unit records (document 02, item 3): what the bytes say.
 #![tactic(auto)]
+
 ghost use Rattle.std.specs.Prelude.{◌≡◌, ◌&&◌, ◌||◌, ◌+◌, ◌≤◌, eqb, ltb, length};
 ghost use Rattle.model.specs.Sizes.{call_limit};
 ghost use Rattle.model.specs.Codes.{kind, code_or_place, values};

@@ -1,5 +1,6 @@
 // The replay of a recording (document 02, item 3), fed blocks of any length (item 5). A replay state is tested once a block, so no record pays for the test.
 #![tactic(auto)]
+
 ghost use Rattle.std.specs.Prelude.{◌≡◌, not, cond, ◌&&◌, [], ◌++◌, ◌+◌, ◌<◌, ◌≤◌, ◌/◌, eqb, ltb, length, take};
 ghost use Rattle.lists.specs.Tests.{Whether};
 ghost use Rattle.model.specs.Codes.{values};

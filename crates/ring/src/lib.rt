@@ -1,6 +1,7 @@
 // A store of words, as a ring (document 01: each queue's control record holds its own ring of 16 words). Every method is by value and is
 // promised on the list of stored words, oldest first.
 #![tactic(auto)]
+
 ghost use Rattle.std.specs.Prelude.{◌≡◌, ◌<◌, ◌≤◌, length};
 ghost use Rattle.lists.specs.Tests.{Whether};
 ghost use Rattle.ring.specs.Ring.{places, further, stored, InRange, NoWordStored, Pushed, OldestPopped, Replaced};

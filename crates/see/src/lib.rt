@@ -1,6 +1,7 @@
 // What a call sees of a record: whether it is sound, and if it is, what the rows that the call names show to the error table and to the choice of what the call
 // does. A number that isn't valid shows nothing: cell 0 is read for it, which is nobody's, and isn't looked at.
 #![tactic(auto)]
+
 ghost use Rattle.std.specs.Prelude.{◌≡◌, cond, not, T, eqb, replicate};
 ghost use Rattle.lists.specs.Tests.{Whether};
 ghost use Rattle.chain.specs.Table.{key_cells, Room};

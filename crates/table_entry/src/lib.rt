@@ -1,6 +1,7 @@
 // The table of calls (document 02, item 2) on a lent record: the two tables are lent, the record is changed where it stands. Document 01's form by place: a
 // walk over a slice of call structs, one call after the other.
 #![tactic(auto)]
+
 ghost use Rattle.table_entry.specs.TableEntered.{TableEntered};
 
 use model::{Answer, Call, Code};

@@ -2,14 +2,14 @@
 use mathlib.Core.Path.{◌≡◌, refl, sym, ap, ◌∙◌, subst}
 use mathlib.Core.Bool.{Bool, not, cond}
 use mathlib.Core.List.{List, [], ◌∷◌, ◌++◌}
-use Prim.Native.Nat.{ℕ, suc, ◌+◌, ◌≤◌}
+use Prim.Native.Nat.{ℕ, suc, ◌≤◌}
 use native.Mathlib.Nat.{zero-add}
 use native.Mathlib.Omega.{arith}
 use lib.Dec.{T, T_not, ltb, nltb→le}
 use lib.ListN.{length, drop}
 use borrow.Author.Tests.{eq-eqb, ne_eqb}
 use lib.Seq.{sets, sets-eq}
-use Rattle.thin.proofs.Turns.{Rest, over, turn}
+use Rattle.tables.proofs.Turns.{Rest, over, turn}
 use Rattle.rows.specs.Runs.{Run, no_call, one_call}
 use Rattle.lists.proofs.Tests.{passed_test, passes_test}
 use Rattle.model.specs.Sizes.{table_limit}

@@ -1,6 +1,7 @@
 // A table of calls (document 02, item 2): what the walk over the two lent tables does on its way, by value. The record is tested once a table: each call
 // leaves a sound record sound, so it is judged behind the test. Crate table_entry has the walk.
 #![tactic(auto)]
+
 ghost use Rattle.std.specs.Prelude.{◌≡◌, not, T};
 ghost use Rattle.model.specs.Rows.{Model};
 ghost use Rattle.model.specs.Tables.{in_table};

@@ -1,5 +1,6 @@
 // The test whether a task is sound, which is document 01's word ("A sound record"): exact whatever its record holds, once the chains are sound.
 #![tactic(auto)]
+
 ghost use Rattle.std.specs.Prelude.{◌≡◌, T};
 ghost use Rattle.lists.specs.Tests.{Whether};
 ghost use Rattle.model.specs.declared.Wait.TheVariants.{NoWait};

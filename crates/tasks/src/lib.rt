@@ -1,5 +1,6 @@
 // What calls 1 and 19 to 21 do to a task where no row of the error table applies to them, and the tick (document 01, "Task states and ticks").
 #![tactic(auto)]
+
 ghost use Rattle.std.specs.Prelude.{◌≡◌, not, T};
 ghost use Rattle.model.specs.Codes.{done};
 ghost use Rattle.model.specs.Rows.{task, valid};

@@ -10,7 +10,6 @@ use lib.Dec.{T}
 use lib.ListN.{length, get_or}
 use Rattle.lists.specs.Lists.{empty, without}
 use Rattle.lists.proofs.Stands.{in_head, without_head}
-use Rattle.rows.specs.Program as Program
 use Rattle.rows.specs.Program.{run}
 use Rattle.rows.proofs.Update.{update_same, update_other}
 use Rattle.chain.specs.Changes.{HasChain, Changed, Removed}

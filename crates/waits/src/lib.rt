@@ -1,6 +1,7 @@
 // A task starts a wait: what the calls that may wait share. How waits end is shared too, as laws (specs/Waiting.antt): the calls and the tick that end them
 // change the record themselves.
 #![tactic(auto)]
+
 ghost use Rattle.std.specs.Prelude.{◌≡◌, cond};
 ghost use Rattle.parts.specs.Chains.{wait_chain};
 ghost use Rattle.waits.specs.Waiting.{Joinable, Joined};

@@ -1,5 +1,4 @@
 -- `chain_of` returns the chain that has the number. The invariant: no chain passed has it. The chains left get fewer.
-use Prim.Native.Nat.{◌-◌}
 use native.Mathlib.Omega.{arith}
 use Rattle.chain.proofs.Changes.{head_fits, walk_from_head, reached_fits}
 use Rattle.chain.proofs.Search.{not_below_one, not_below_more, next_chain, searched_here, searched_all, standing}

@@ -1,5 +1,5 @@
 -- `sound` is exact. The invariant: the chains passed are chains, and the marks say which number stands in which of them. The chains left get fewer.
-use Prim.Native.Nat.{◌+◌, ◌-◌}
+use Prim.Native.Nat.{◌+◌}
 use mathlib.Core.Path.{◌≡◌}
 use native.Mathlib.Omega.{arith}
 use Rattle.lists.proofs.Tests.{passed_test}

@@ -1,5 +1,4 @@
 -- `write_all` writes one task after the other: the loop keeps what has been written.
-use Prim.Native.Nat.{◌-◌}
 use native.Mathlib.Omega.{arith}
 use Rattle.host_record.proofs.Writing.{begins, one_more, all_written}
 use borrow.Author.Rules.{rules}

@@ -1,5 +1,4 @@
 -- `rewrite_all` writes the tasks' numbers one after the other.
-use Prim.Native.Nat.{◌-◌}
 use native.Mathlib.Omega.{arith}
 use Rattle.host_tasks.proofs.Rewriting.{begins, one_more, all_written}
 use borrow.Author.Rules.{rules}

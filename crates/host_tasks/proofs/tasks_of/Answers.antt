@@ -1,9 +1,7 @@
 -- `tasks_of` makes the tasks that the numbers stand for: its loop fills the array with them.
 use mathlib.Core.Path.{◌≡◌}
-use Prim.Native.Nat.{◌-◌}
 use native.Mathlib.Omega.{arith}
 use lib.ListN.{length}
-use Rattle.host_tasks.specs.Tasks.{read_task}
 use Rattle.host_tasks.proofs.Filling.{filled_first, filled_more, filled_all}
 use borrow.Author.Rules.{rules}
 use Rattle.host_tasks.proofs.tasks_of.Goals as goal

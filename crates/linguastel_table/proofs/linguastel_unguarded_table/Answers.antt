@@ -1,5 +1,5 @@
 -- A turn makes one call more; behind the loop all are made, and the record is written back.
-use Rattle.std.proofs.Common.{rules, refl, ◌≡◌, ◌∙◌, length, T, not, List, get_or, subst, sym, length-set, ℤ, pos, to_z, of_z, w32}
+use Rattle.std.proofs.Common.{rules, refl, ◌≡◌, ◌∙◌, length, T, not, get_or, subst, sym, length-set, pos, to_z, of_z, w32}
 use Rattle.lists.proofs.Tests.{passed_test}
 use Rattle.model.specs.Codes.{number}
 use Rattle.model.specs.Tables.{in_table}
@@ -7,7 +7,7 @@ use Rattle.host_calls.specs.Calls.{call_of, answer_of}
 use Rattle.host_calls.specs.declared.HostCall.{HostCall}
 use Rattle.record.specs.Sound.{Sound}
 use Rattle.tables.proofs.Made.{One, moves, stays, ran, enough, table_refused, table_ran}
-use Rattle.thin.proofs.Turns.{next_turn, none_left}
+use Rattle.tables.proofs.Turns.{next_turn, none_left}
 use Rattle.host_record.specs.Record.{host_engine}
 use Rattle.host_record.proofs.Tables.{record_ran}
 use Rattle.linguastel_table.proofs.linguastel_unguarded_table.Goals as goal

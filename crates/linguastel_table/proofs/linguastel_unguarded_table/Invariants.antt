@@ -1,11 +1,11 @@
 -- So many calls are made, and whatever the others come to, all of them come to. There is a cell for each call, and the state is sound.
-use Rattle.std.proofs.Common.{length, drop, ◌-◌, ◌≡◌, ℕ, ◌≤◌, List}
+use Rattle.std.proofs.Common.{length, drop, ◌-◌, ◌≡◌, ◌≤◌, List}
 use Rattle.host_calls.specs.Calls.{call_of, answer_of}
 use Rattle.host_calls.specs.declared.HostAnswer.{HostAnswer}
 use Rattle.record.specs.Sound.{Sound}
 use Rattle.record.specs.declared.State.{State}
 use Rattle.tables.proofs.Made.{One}
-use Rattle.thin.proofs.Turns.{Rest}
+use Rattle.tables.proofs.Turns.{Rest}
 use Rattle.linguastel_table.proofs.linguastel_unguarded_table.Given as goal
 
 abbrev pub invariant-loop-i : goal.invariant-loop-i

@@ -14,7 +14,6 @@ returns-in-NotRun c = record {
   changes_is = refl;
   left_out = λ t. (refl, refl);
   run = λ n. absurd (T_not (not_run c.args.bytes.now) n (decoded_not_run _ (sym c.decode-decoded.ensures ∙ c.in-NotRun.is)));
-
 }
 
 pub returns-in-Run : goal.returns-in-Run

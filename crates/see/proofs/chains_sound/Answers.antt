@@ -19,5 +19,4 @@ pub returns : goal.returns
 returns c = record {
   exact = is_map (λ m. (went_on c.sound.ensures.exact (ap not c.if-not-sound.false), m)) (λ S. S.1) c.sound-2.ensures.exact;
   standing_is = λ e. c.sound.ensures.standing_is (c.if-not-sound.false);
-
 }

@@ -1,9 +1,7 @@
 -- `see` is exact: the first loop keeps that the tasks passed are sound, the second that the objects passed are. Then it shows what stands in the cells that the call names.
 use mathlib.Core.Bool.{not}
 use mathlib.Core.Path.{ap, ◌≡◌, refl}
-use Prim.Native.Nat.{◌-◌}
 use native.Mathlib.Omega.{arith}
-use lib.ListN.{length-map}
 use borrow.Author.Rules.{rules}
 use Rattle.lists.proofs.Tests.{stopped, went_on}
 use Rattle.model.specs.Sizes.{task_limit, queue_limit, mailbox_limit}

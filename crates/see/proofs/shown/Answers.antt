@@ -20,5 +20,4 @@ returns c = record {
   queue_is = rw c.queue_named.ensures at c.see_queue-queue_seen.ensures;
   mailbox_is = rw c.mailbox_named.ensures at c.see_mailbox-mailbox_seen.ensures;
   free = rw c.message_named.ensures at c.see_message-message_free.ensures;
-
 }

@@ -1,5 +1,5 @@
 -- A turn makes one call more; behind the loop all are made, and the state is written back.
-use Rattle.std.proofs.Common.{refl, ◌≡◌, ◌∙◌, length, T, not, false, List, get_or, subst, sym, length-set, pos}
+use Rattle.std.proofs.Common.{refl, ◌∙◌, length, T, not, false, get_or, subst, sym, length-set, pos}
 use Rattle.lists.proofs.Tests.{passed_test}
 use Rattle.model.specs.declared.Answer.{Answer}
 use Rattle.model.specs.declared.Call.{Call}
@@ -7,7 +7,7 @@ use Rattle.record.specs.Sound.{Sound}
 use Rattle.record.specs.Step.{state_engine}
 use Rattle.record.specs.declared.State.{State}
 use Rattle.tables.proofs.Made.{One, Ran, moves, stays, ran, enough, table_refused, table_ran}
-use Rattle.thin.proofs.Turns.{next_turn, none_left}
+use Rattle.tables.proofs.Turns.{next_turn, none_left}
 use Rattle.table_entry.proofs.enter_table.Goals as goal
 use Rattle.table_entry.proofs.enter_table.Goals.{then-judged, else-judged}
 

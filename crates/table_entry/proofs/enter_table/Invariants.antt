@@ -1,10 +1,10 @@
 -- So many calls are made, and whatever the others come to, all of them come to. There is a cell for each call, and the state is sound.
-use Rattle.std.proofs.Common.{length, drop, ◌-◌, ◌≡◌, ℕ, ◌≤◌, List}
+use Rattle.std.proofs.Common.{length, drop, ◌-◌, ◌≡◌, ◌≤◌, List}
 use Rattle.model.specs.declared.Answer.{Answer}
 use Rattle.record.specs.Sound.{Sound}
 use Rattle.record.specs.declared.State.{State}
 use Rattle.tables.proofs.Made.{One}
-use Rattle.thin.proofs.Turns.{Rest}
+use Rattle.tables.proofs.Turns.{Rest}
 use Rattle.table_entry.proofs.enter_table.Given as goal
 
 abbrev pub invariant-loop-i : goal.invariant-loop-i

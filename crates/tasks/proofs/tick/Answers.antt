@@ -1,5 +1,5 @@
 -- `tick` goes from task to task. The loop keeps that what is left of the definition's program runs to what the whole runs to; the tasks left get fewer.
-use Rattle.std.proofs.Common.{◌-◌, sym, ◌∙◌, ⊎_elim, arith}
+use Rattle.std.proofs.Common.{sym, ◌∙◌, arith}
 use Rattle.waits.proofs.Ends.{removable}
 use Rattle.tasks.proofs.Turns.{ticking_begins, turn_passes, turn_endable, turn_ends, ticking_ends}
 use Rattle.tasks.proofs.tick.Goals as goal

@@ -1,7 +1,7 @@
 -- `is_sound` is exact: each of its three tests is.
 use mathlib.Core.Path.{◌≡◌}
 use native.Mathlib.Omega.{arith}
-use lib.ListN.{length, length-map}
+use lib.ListN.{length}
 use borrow.Author.Rules.{rules}
 use Rattle.lists.proofs.Tests.{is_map, is_and, is_ltb}
 use Rattle.replays.proofs.Replay.is_sound.Goals as goal

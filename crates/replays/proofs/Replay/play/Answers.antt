@@ -1,6 +1,5 @@
 -- `play` takes a record at each turn, and keeps what is left.
 use mathlib.Core.Path.{refl}
-use Prim.Native.Nat.{◌-◌}
 use native.Mathlib.Omega.{arith}
 use Rattle.replays.proofs.Parts.{rest_kept}
 use Rattle.replays.proofs.Turns.{stays, moves, starts, turn, ends}
