@@ -1,4 +1,4 @@
-// What hosts in C or Rust link: the functions of crate linguastel_table under their C names. docs/ARCHITECTURE.md says how the archive comes to be.
+// What hosts in C or Rust link: the functions of crate linguastel_table under their C names. hosts/library makes the archive.
 #![tactic(auto)]
 
 ghost use Rattle.std.specs.Prelude.{◌≡◌};
