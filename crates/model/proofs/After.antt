@@ -8,7 +8,7 @@ use lib.Dec.{T, eqb}
 use borrow.Author.Tests.{eq-eqb, ne_eqb}
 use Rattle.lists.specs.Lists.{without, one_of}
 use Rattle.rows.specs.Program as Program
-use Rattle.rows.specs.Program.{return, get, put, if◌then◌else◌, get_each, update, run, Result}
+use Rattle.rows.specs.Program.{return, get, put, provided◌then◌else◌, get_each, update, run, Result}
 use Rattle.rows.proofs.Run.{run_get_each}
 use Rattle.model.specs.Rows.{Key, task, suspension, queue, mailbox, message, same_key, Row, Effect, free}
 use Rattle.model.specs.Codes.{Code}
@@ -44,7 +44,7 @@ module _ {Q : Program.Rows Row → Answer → Type 0} where
   unfolding run
   after_put h = record { holds = h.holds }
 
-  pub after_if : {b : Bool} {p q : Effect} {m : Program.Rows Row} → (T b → After Q p m) → (T (not b) → After Q q m) → After Q (if b then p else q) m
+  pub after_if : {b : Bool} {p q : Effect} {m : Program.Rows Row} → (T b → After Q p m) → (T (not b) → After Q q m) → After Q (provided b then p else q) m
   unfolding run
   after_if {b = true} yes_case no_case = record { holds = (yes_case tt).holds }
   after_if {b = false} yes_case no_case = record { holds = (no_case tt).holds }

@@ -5,7 +5,7 @@ use mathlib.Core.List.{List, [], ◌∷◌, ◌++◌}
 use Prim.Native.Nat.{ℕ}
 use lib.Dec.{T, eqb}
 use Rattle.rows.specs.Program as Program
-use Rattle.rows.specs.Program.{Program, get, if◌then◌else◌, run_first, run, Result, step_of}
+use Rattle.rows.specs.Program.{Program, get, provided◌then◌else◌, run_first, run, Result, step_of}
 use Rattle.rows.proofs.Run.{run_return, run_yes, run_no, run_run_first}
 use Rattle.model.specs.Rows.{Key, task, suspension, queue, mailbox, message, same_key, valid, Row, Environment, Effect, Model, nothing}
 use Rattle.model.specs.Codes.{finished, refuse}
@@ -22,7 +22,7 @@ run_read_if_valid : {X : Type 0} (k : Key) (f : Row k → Program Key Row X) (m 
 unfolding read_if_valid run
 run_read_if_valid {X} k f m = go (valid k)
   where
-    go : (b : Bool) → run same_key (if b then get k f else f (nothing k)) m ≡ run same_key (f (cond b (m k) (nothing k))) m
+    go : (b : Bool) → run same_key (provided b then get k f else f (nothing k)) m ≡ run same_key (f (cond b (m k) (nothing k))) m
     go true = refl
     go false = refl
 
@@ -87,8 +87,8 @@ run_unless : (xs ys : List ErrorRow) (p : Effect) (m : Program.Rows Row) → run
 unfolding unless_refused run
 run_unless xs ys p m = rw (applies_append xs ys, first_append xs ys) (go (some_applies xs))
   where
-    go : (b : Bool) → run same_key (if b then refuse (first_that_applies xs) else if some_applies ys then refuse (first_that_applies ys) else p) m
-        ≡ run same_key (if b || some_applies ys then refuse (cond b (first_that_applies xs) (first_that_applies ys)) else p) m
+    go : (b : Bool) → run same_key (provided b then refuse (first_that_applies xs) else provided some_applies ys then refuse (first_that_applies ys) else p) m
+        ≡ run same_key (provided b || some_applies ys then refuse (cond b (first_that_applies xs) (first_that_applies ys)) else p) m
     go true = refl
     go false = refl
 
@@ -117,8 +117,8 @@ run_program m c =
     whole : View → Result (Program.Rows Row) Answer
     whole v = run same_key (unless_refused (rows_to_step_4 v.caller c ++ rows_from_step_5 v c) (effect e v c)) m.rows
 
-    second_stage : (b : Bool) → run same_key (if b then refuse (first_that_applies (rows_to_step_4 caller c)) else run_first (see_named e c caller) rest) m.rows
-        ≡ run same_key (if b then refuse (first_that_applies (rows_to_step_4 caller c)) else rest (rows_seen m.rows c)) m.rows
+    second_stage : (b : Bool) → run same_key (provided b then refuse (first_that_applies (rows_to_step_4 caller c)) else run_first (see_named e c caller) rest) m.rows
+        ≡ run same_key (provided b then refuse (first_that_applies (rows_to_step_4 caller c)) else rest (rows_seen m.rows c)) m.rows
     second_stage true = refl
     second_stage false = run_run_first same_key (see_named e c caller) rest m.rows
         ∙ ap (λ (o : Result (Program.Rows Row) View). run same_key (rest o.answer) o.state) (run_see_named e c m.rows caller)

@@ -2,7 +2,7 @@
 use Rattle.std.specs.Prelude.{Bool, cond, List, [], ◌∷◌, ℕ, eqb}
 use Rattle.lists.specs.Lists.{one_of}
 use Rattle.rows.specs.Program as Program
-use Rattle.rows.specs.Program.{Program, return, get, if◌then◌else◌, run, ◌>>=◌}
+use Rattle.rows.specs.Program.{Program, return, get, provided◌then◌else◌, run, ◌>>=◌}
 use Rattle.model.specs.Sizes.{within}
 use Rattle.model.specs.Rows.{Key, task, suspension, queue, mailbox, message, same_key, valid, Row, TaskRow, QueueRow, MailboxRow, MessageRow}
 use Rattle.model.specs.Rows.{Environment, Model, nothing}
@@ -160,7 +160,7 @@ abbrev pub row_if_valid : Program.Rows Row → (k : Key) → Row k
 row_if_valid m k = cond (valid k) (m k) (nothing k)
 
 unfoldable pub read_if_valid : {X : Type 0} (k : Key) → (Row k → Program Key Row X) → Program Key Row X
-read_if_valid k rest = if valid k then get k rest else rest (nothing k)
+read_if_valid k rest = provided valid k then get k rest else rest (nothing k)
 
 -- The first stage. (The environment is handed in because owners, which document 02's item 7 brings, will stand in it.)
 unfoldable pub see_caller : Environment → Call → Program Key Row CallerView

@@ -2,7 +2,7 @@
 use Rattle.std.specs.Prelude.{true, not, ℕ, length}
 use mathlib.Core.List.{[], ◌∷◌, ◌++◌, tail, head_d}
 use Rattle.lists.specs.Lists.{empty, insert_at}
-use Rattle.rows.specs.Program.{return, get, put, if◌then◌else◌, ◌>>=◌, ◌>>◌}
+use Rattle.rows.specs.Program.{return, get, put, provided◌then◌else◌, ◌>>=◌, ◌>>◌}
 use Rattle.model.specs.Rows.{task, queue, TaskRow, QueueRow, Environment, Effect, senders_by_priority, has_room, no_queue, with_words, with_senders}
 use Rattle.model.specs.Rows.{with_receivers}
 use Rattle.model.specs.Codes.{E_OK, E_DLT, finished, waits, done, gives, refused_at_step_7}
@@ -49,8 +49,8 @@ module _ (q : ℕ) (x : QueueRow) where
   -- "Send", its three cases in order; `otherwise` is the third.
   unfoldable pub send : ℕ → Effect → Effect
   send word otherwise =
-      if not (empty x.receivers) then deliver word
-      else if has_room x then store word
+      provided not (empty x.receivers) then deliver word
+      else provided has_room x then store word
       else otherwise
 
   -- Words stored, no sender waiting.
@@ -87,8 +87,8 @@ module _ (q : ℕ) (x : QueueRow) where
   -- "Receive", likewise.
   unfoldable pub receive : Effect → Effect
   receive otherwise =
-      if not (empty x.words) then (if empty x.senders then take_oldest else take_oldest_and_refill)
-      else if not (empty x.senders) then take_from_sender
+      provided not (empty x.words) then (provided empty x.senders then take_oldest else take_oldest_and_refill)
+      else provided not (empty x.senders) then take_from_sender
       else otherwise
 
   -- All waits end, the senders' first; then the queue is undefined.

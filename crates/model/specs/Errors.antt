@@ -2,7 +2,7 @@
 use Rattle.std.specs.Prelude.{Bool, false, not, ◌&&◌, ◌||◌, cond, List, [], ◌∷◌, ◌++◌, eqb, ltb, ℤ, pos, negsuc}
 use Rattle.std.specs.Int.Signed.{lt_z}
 use Rattle.lists.specs.Lists.{empty}
-use Rattle.rows.specs.Program.{if◌then◌else◌}
+use Rattle.rows.specs.Program.{provided◌then◌else◌}
 use Rattle.model.specs.Sizes.{call_limit, task_limit, capacity_limit, priority_limit, tmout_limit, within}
 use Rattle.model.specs.Rows.{task, queue, mailbox, message, valid, has_room, messages_by_priority, Effect}
 use Rattle.model.specs.Waits.{able}
@@ -178,4 +178,4 @@ refusal v c = first_that_applies (error_table v c)
 
 -- The first of these rows that applies refuses; where none does, the rest follows.
 unfoldable pub unless_refused : List ErrorRow → Effect → Effect
-unless_refused rows rest = if some_applies rows then refuse (first_that_applies rows) else rest
+unless_refused rows rest = provided some_applies rows then refuse (first_that_applies rows) else rest

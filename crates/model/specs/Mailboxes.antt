@@ -2,7 +2,7 @@
 use Rattle.std.specs.Prelude.{true, not, cond, ℕ}
 use mathlib.Core.List.{List, [], ◌∷◌, tail, head_d}
 use Rattle.lists.specs.Lists.{empty, insert_at}
-use Rattle.rows.specs.Program.{return, put, get_each, if◌then◌else◌, ◌>>=◌, ◌>>◌}
+use Rattle.rows.specs.Program.{return, put, get_each, provided◌then◌else◌, ◌>>=◌, ◌>>◌}
 use Rattle.model.specs.Rows.{task, mailbox, message, TaskRow, MailboxRow, Environment, Effect, waiters_by_priority, messages_by_priority, no_mailbox}
 use Rattle.model.specs.Rows.{free, with_waiters, with_messages}
 use Rattle.model.specs.Codes.{E_OK, E_DLT, finished, waits, done, gives, refused_at_step_7}
@@ -62,10 +62,10 @@ module _ (b : ℕ) (x : MailboxRow) where
     return (waits n)
 
   unfoldable pub send_message : ℕ → ℕ → Effect
-  send_message g priority = if not (empty x.waiters) then deliver_message g else queue_message g priority
+  send_message g priority = provided not (empty x.waiters) then deliver_message g else queue_message g priority
 
   unfoldable pub receive_message : Effect → Effect
-  receive_message otherwise = if not (empty x.messages) then take_message else otherwise
+  receive_message otherwise = provided not (empty x.messages) then take_message else otherwise
 
   -- The waits end first, then the messages are freed; then the mailbox is undefined.
   abbrev pub delete : Effect

@@ -1,7 +1,7 @@
 -- Document 01, "Task states and ticks": calls 1 and 19 to 23, where no row of the error table applies, and the tick.
 use Rattle.std.specs.Prelude.{Bool, true, false, cond, List, [], ◌∷◌, ℕ, suc, ◌+◌, ◌%◌}
 use Rattle.lists.specs.Lists.{ascending}
-use Rattle.rows.specs.Program.{Result, return, get, put, if◌then◌else◌, run, ◌>>=◌, ◌>>◌}
+use Rattle.rows.specs.Program.{Result, return, get, put, provided◌then◌else◌, run, ◌>>=◌, ◌>>◌}
 use Rattle.model.specs.Sizes.{task_limit, counter_span}
 use Rattle.model.specs.Rows.{task, suspension, same_key, Environment, Model, Effect}
 use Rattle.model.specs.Codes.{E_OK, E_RLWAI, E_TMOUT, finished, done, gives}
@@ -54,7 +54,7 @@ unfoldable pub expire : ℕ → List ℕ → ℕ → Effect
 expire counter [] n = gives n
 expire counter (t ∷ ts) n = do
   x ← get (task t)
-  if due counter (wait_end x.wait) then end_wait t E_TMOUT (expire counter ts (suc n)) else expire counter ts n
+  provided due counter (wait_end x.wait) then end_wait t E_TMOUT (expire counter ts (suc n)) else expire counter ts n
 
 -- 0: all tasks, from the smallest number on.
 unfoldable pub tick : Model → Result Model Answer

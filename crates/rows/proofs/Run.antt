@@ -3,7 +3,7 @@ use mathlib.Core.Path.{◌≡◌, refl}
 use mathlib.Core.Bool.{Bool, true, false, not}
 use mathlib.Core.List.{List, [], ◌∷◌, map}
 use lib.Dec.{T}
-use Rattle.rows.specs.Program.{Program, return, get, put, if◌then◌else◌, get_each, run_first, Rows, update, run}
+use Rattle.rows.specs.Program.{Program, return, get, put, provided◌then◌else◌, get_each, run_first, Rows, update, run}
 
 module _ {Key : Type 0} {Row : Key → Type 0} {A : Type 0} (same_key : Discrete Key) where
   pub run_return : (a : A) (m : Rows Row) → run {Row = Row} same_key (return a) m ≡ record { state = m; answer = a }
@@ -18,12 +18,12 @@ module _ {Key : Type 0} {Row : Key → Type 0} {A : Type 0} (same_key : Discrete
   unfolding run
   run_put k v p m = refl
 
-  pub run_yes : (b : Bool) (p q : Program Key Row A) (m : Rows Row) → T b → run same_key (if b then p else q) m ≡ run same_key p m
+  pub run_yes : (b : Bool) (p q : Program Key Row A) (m : Rows Row) → T b → run same_key (provided b then p else q) m ≡ run same_key p m
   unfolding run
   run_yes true p q m t = refl
   run_yes false p q m t = absurd t
 
-  pub run_no : (b : Bool) (p q : Program Key Row A) (m : Rows Row) → T (not b) → run same_key (if b then p else q) m ≡ run same_key q m
+  pub run_no : (b : Bool) (p q : Program Key Row A) (m : Rows Row) → T (not b) → run same_key (provided b then p else q) m ≡ run same_key q m
   unfolding run
   run_no true p q m t = absurd t
   run_no false p q m t = refl
@@ -41,5 +41,5 @@ module _ {Key : Type 0} {Row : Key → Type 0} {A : Type 0} (same_key : Discrete
   run_run_first (return x) f m = refl
   run_run_first (get k g) f m = run_run_first (g (m k)) f m
   run_run_first (put k v p) f m = run_run_first p f (update same_key k v m)
-  run_run_first (if true then p else q) f m = run_run_first p f m
-  run_run_first (if false then p else q) f m = run_run_first q f m
+  run_run_first (provided true then p else q) f m = run_run_first p f m
+  run_run_first (provided false then p else q) f m = run_run_first q f m

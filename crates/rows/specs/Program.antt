@@ -2,12 +2,12 @@
 use Rattle.std.proofs.Math.Path.{subst⁻¹}
 use Rattle.std.specs.Prelude.{Bool, true, false, List, [], ◌∷◌}
 
-infix 5 if◌then◌else◌
+infix 5 provided◌then◌else◌
 pub data Program (Key : Type 0) (Row : Key → Type 0) (A : Type 0) : Type 0 where
   return : A → Program Key Row A
   get : (k : Key) → (Row k → Program Key Row A) → Program Key Row A
   put : (k : Key) → Row k → Program Key Row A → Program Key Row A
-  if◌then◌else◌ : Bool → Program Key Row A → Program Key Row A → Program Key Row A
+  provided◌then◌else◌ : Bool → Program Key Row A → Program Key Row A → Program Key Row A
 
 -- `do` blocks: `x ← get k` hands the row on to the lines below it, and `put k v` goes before them.
 module _ {Key : Type 0} {Row : Key → Type 0} {A : Type 0} where
@@ -31,7 +31,7 @@ unfoldable pub run_first : {Key : Type 0} {Row : Key → Type 0} {X A : Type 0} 
 run_first (return x) rest = rest x
 run_first (get k f) rest = get k (λ row. run_first (f row) rest)
 run_first (put k v p) rest = put k v (run_first p rest)
-run_first (if b then p else q) rest = if b then run_first p rest else run_first q rest
+run_first (provided b then p else q) rest = provided b then run_first p rest else run_first q rest
 
 -- What a step hands back.
 pub record Result (S A : Type 0) : Type 0 where
@@ -51,8 +51,8 @@ module _ {Key : Type 0} {Row : Key → Type 0} (same_key : Discrete Key) where
   run (return a) m = record { state = m; answer = a }
   run (get k f) m = run (f (m k)) m
   run (put k v p) m = run p (update k v m)
-  run (if true then p else q) m = run p m
-  run (if false then p else q) m = run q m
+  run (provided true then p else q) m = run p m
+  run (provided false then p else q) m = run q m
 
 -- An environment, which calls read and none writes, and the rows.
 pub record Configuration (E : Type 0) {Key : Type 0} (Row : Key → Type 0) : Type 0 where

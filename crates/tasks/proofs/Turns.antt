@@ -3,7 +3,7 @@ use Rattle.std.proofs.Common.{◌≡◌, ℕ, suc, ◌+◌, ◌-◌, ◌%◌, �
 use mathlib.Core.Path.{fun_ext}
 use Rattle.lists.specs.Lists.{ascending}
 use Rattle.rows.specs.Program as Program
-use Rattle.rows.specs.Program.{if◌then◌else◌, run, Result}
+use Rattle.rows.specs.Program.{provided◌then◌else◌, run, Result}
 use Rattle.rows.proofs.Run.{run_yes, run_no}
 use Rattle.chain.specs.Changes.{Removed}
 use Rattle.model.specs.Sizes.{task_limit, counter_span}
@@ -94,7 +94,7 @@ module _ {counter : ℕ} {s₀ s : State} {n t : ℕ} (i : Ticking counter s₀ 
 
   -- What is left of the program begins with the task's turn.
   turn_runs : run same_key (expire counter (ascending t (suc task_limit - t)) n) (abs s).rows
-      ≡ run same_key (if due counter (wait_end ((abs s).rows (task t)).wait) then end_wait t E_TMOUT (expire counter rest (suc n)) else expire counter rest n) (abs s).rows
+      ≡ run same_key (provided due counter (wait_end ((abs s).rows (task t)).wait) then end_wait t E_TMOUT (expire counter rest (suc n)) else expire counter rest n) (abs s).rows
   unfolding run expire ascending
   turn_runs = ap (λ l. run same_key (expire counter l n) (abs s).rows) first
     where
