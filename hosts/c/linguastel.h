@@ -24,9 +24,9 @@
  *   - The context is true: who calls, and whether the CPU is locked or dispatching disabled.
  *   - Arguments fit their 32 bits. C cuts a wider number down before the kernel sees it; gcc and clang warn of that with -Wconversion.
  *
- * What it costs, on x86-64: 14,094 bytes of code and 504 of constants; a record of LINGUASTEL_RECORD_SIZE bytes, which the host lends; no heap, no static
- * data. Stack at most 9,096 bytes for a call or the tick, 7,864 for a table, 27,240 for a block of a replay. Instructions at most, of what a search found,
- * 8,843 for a call and 12,219 for a tick, and on top what memcpy takes for up to 15,688 bytes. A table adds 14,630 bytes of code, the replay 14,676. Each call
+ * What it costs, on x86-64: 16,102 bytes of code and 608 of constants; a record of LINGUASTEL_RECORD_SIZE bytes, which the host lends; no heap, no static
+ * data. Stack at most 10,720 bytes for a call or the tick, 12,576 for a table, 27,584 for a block of a replay. Instructions at most, of what a search found,
+ * 9,668 for a call and 12,914 for a tick, and on top what memcpy takes for up to 18,072 bytes. A table adds 17,568 bytes of code, the replay 15,625. Each call
  * tests the whole record; a table tests it once for all of its calls. docs/FIGURES.md, Footprint, has each call.
  */
 #ifndef LINGUASTEL_H
