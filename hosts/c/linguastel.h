@@ -201,7 +201,7 @@ enum { LINGUASTEL_HEADS_OF_SENDERS = 32, LINGUASTEL_HEADS_OF_RECEIVERS = 48, LIN
  * Entry n of each array belongs to number n, entry 0 to nobody. A host may read the record between calls. What it writes there is taken as it is if the
  * record is then sound; else every call of a known number answers E_SYS.
  *
- * A record whose bytes are all 0 is the empty record: nothing is defined, the counter is 0 (the theorem `zeroed-empty`). So one in zeroed memory, as a
+ * A record whose bytes are all 0 is the empty record: nothing is defined, the counter is 0 (the theorem `zeroed_empty`). So one in zeroed memory, as a
  * static one, one that is initialised with {0} (in C++ with {}), or one from calloc, is ready for use.
  *
  * Every byte belongs to a field, so that records can be copied and compared as bytes. A field named spare says nothing: whatever it holds, the record
@@ -589,7 +589,7 @@ LINGUASTEL_MUST_USE static inline LinguastelAnswer linguastel_look_only(const Li
 
 /*
  * Whether the record is sound, whatever its bytes are. Nor is this a function of the library: look, by caller 0 of task 0, is refused with E_SYS exactly where
- * the record isn't sound, and writes nothing (the theorem `sound-by-call`).
+ * the record isn't sound, and writes nothing (the theorem `sound_by_call`).
  */
 LINGUASTEL_MUST_USE static inline bool linguastel_sound(const LinguastelRecord *record)
 {

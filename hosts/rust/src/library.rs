@@ -72,7 +72,7 @@ impl Record {
     pub(crate) fn seen(&self, task: u32) -> Answer {
         let look = Call { number: number::LOOK, object: task, ..Call::default() };
         // SAFETY: the pointer is to a whole record of the layout that the library has. Of look the function reads that record and writes nothing (the
-        // theorem `sound-by-call`). Any bytes will do.
+        // theorem `sound_by_call`). Any bytes will do.
         unsafe { linguastel_unguarded_call(from_ref(self).cast_mut(), look) }.read()
     }
 

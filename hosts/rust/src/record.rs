@@ -123,7 +123,7 @@ impl Record {
     const NO_CHAINS: Chains = Chains { link: [0; 81], key: [0; 65] };
     const NO_MAILBOX: Mailbox = Mailbox { defined: 0, attribute: 0, highest: 0 };
 
-    /// The record in which nothing is defined, at counter 0: all bytes are 0 (the theorem `zeroed-empty`). So a static record needs no call to begin with.
+    /// The record in which nothing is defined, at counter 0: all bytes are 0 (the theorem `zeroed_empty`). So a static record needs no call to begin with.
     pub const EMPTY: Record = Record {
         counter: 0,
         tasks: [Record::NO_TASK; TASKS + 1],
