@@ -1,2 +1,12 @@
-// How a thin entry is proved, once for all types: in proofs/. No code.
+//! Thin entries, over any types, in six shapes: an entry is lent a record, and hands it by value to the functions that it calls. What it leaves in what it was
+//! lent and what it answers is said by what those functions promise, whatever they and the types are.
 #![tactic(auto)]
+
+mod record;
+mod table;
+
+pub use record::{Judged, Stepped, Taken, enter, enter_block, enter_judged, fill, read};
+pub use table::{Tested, enter_table};
+
+#[cfg(test)]
+mod tests;
