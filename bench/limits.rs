@@ -19,14 +19,14 @@ use std::process::exit;
 use std::sync::OnceLock;
 
 // Bytes, for any call.
-const STACK_LIMIT: usize = 10_752;
-const COPIED_LIMIT: usize = 12 * size_of::<Record>();
+const STACK_LIMIT: usize = 9_216;
+const COPIED_LIMIT: usize = 7 * size_of::<Record>();
 // Likewise, in a table of 64 calls: the stack is that of the whole table, the bytes copied are those of one call.
-const TABLE_STACK_LIMIT: usize = 12_800;
-const TABLE_COPIED_LIMIT: usize = 14_336;
+const TABLE_STACK_LIMIT: usize = 10_240;
+const TABLE_COPIED_LIMIT: usize = 12_288;
 // Likewise, of a block that ends one record.
-const BLOCK_STACK_LIMIT: usize = 28_672;
-const BLOCK_COPIED_LIMIT: usize = 21 * size_of::<Record>();
+const BLOCK_STACK_LIMIT: usize = 12_288;
+const BLOCK_COPIED_LIMIT: usize = 12 * size_of::<Record>();
 
 // ── What is measured ──
 

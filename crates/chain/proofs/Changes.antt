@@ -14,7 +14,7 @@ use Rattle.chain.specs.Table.{cells, follow, lists, chain_of, Chain, Holds}
 use Rattle.chain.specs.Walks.{Walk, Reached, Sought, Found}
 use Rattle.chain.specs.Changes.{HasChain, Changed, Insertable, Inserted, Popped, Removed}
 use Rattle.chain.proofs.Chain.{cell_at, leads, at_end, holds_first}
-use Rattle.chain.proofs.Table.{lists_are, list_at, member_range, cell_fits, insert_holds, remove_holds, clear_holds}
+use Rattle.chain.proofs.Table.{lists_are, list_at, member_range, insert_holds, remove_holds, clear_holds}
 use Rattle.chain.proofs.Standing.{stands_there, stands_free}
 
 -- What the cells hold is what is read of them.
@@ -69,12 +69,6 @@ module _ {n c k : ℕ} {s : List ℕ} (a : HasChain n c k s) where
   pub reached_cell : {at place : ℕ} → Reached n (n + k) s at place → at ≡ cell_at (n + k) (get_or (lists n c s) k []) place
   reached_cell r = rw list_is at r.at_is
 
-  pub reached_fits : {at place : ℕ} → Reached n (n + k) s at place → at < cells
-  reached_fits {place = place} r =
-      let h = cell_fits a.sound a.low a.high place (reached_place r) in
-      let e = reached_cell r in
-      omega arith
-
   module _ {x : ℕ} (e : chain_of x (lists n c s) ≡ k) where
     there : In x (get_or (lists n c s) k [])
     there = stands_there x k (lists n c s) e a.low
@@ -93,9 +87,6 @@ module _ {n c k : ℕ} {s : List ℕ} (a : HasChain n c k s) where
         record { place_is = p; changed = changed (rw (w, reached_cell r.reached) (rw (y, v) at (remove_holds a.sound a.low a.high place b))) }
 
 module _ {n c k x : ℕ} {s key : List ℕ} (a : Insertable n c k x s key) where
-  pub inserted_cell : x < cells
-  inserted_cell = let h = a.in_table in let g = a.has.sound.room.keys_fit in omega arith
-
   pub inserted : {limit at place y : ℕ} → Sought n (n + k) limit s key at place → y ≡ x → Inserted n c k x limit s key (set (set s y (get_or s at 0)) at x) place
   inserted {limit} {at} {place} r w =
       record {

@@ -21,10 +21,15 @@ use Rattle.lists.proofs.Changes.{remove_first, length_insert, insert_at_end}
 use Rattle.lists.proofs.Places.{at_ahead, ahead_in, passed_within}
 use Rattle.chain.specs.Table.{lists, Sound, chain_of, keys_of}
 use Rattle.chain.specs.Changes.{HasChain, Changed, Insertable, Inserted, Popped, Removed}
+use Rattle.chain.specs.declared.Chains.{Chains}
 use Rattle.chain.proofs.Chain.{chain_once, short, in_range}
 use Rattle.chain.proofs.Table.{member_range}
 use Rattle.chain.proofs.Standing.{stands_in, stands_there, stands_nowhere, stands_free, new_list, standing_new, standing_none, standing_same}
 use Rattle.chain.proofs.Changes.{chain_is}
+
+-- A change that leaves the keys is one of the links.
+pub only_links : (new : Chains) {keys : List ℕ} → new.key ≡ keys → new ≡ record { link = new.link; key = keys }
+only_links new e = ap (λ (key : List ℕ). record { link = new.link; key = key }) e
 
 -- A chain has each number once, and only numbers of the table.
 module _ {n c k : ℕ} {s : List ℕ} (a : HasChain n c k s) where

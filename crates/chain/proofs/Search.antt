@@ -22,9 +22,6 @@ pub record NotBelow (n c k x : ℕ) (s : List ℕ) : Type 0 where
   pub positive : 0 < k
   pub not_in : (j : ℕ) → j < k → In x (get_or (lists n c s) j []) → ⊥
 
-pub not_below_one : {n c x : ℕ} {s : List ℕ} → Sound n c s → NotBelow n c 1 x s
-not_below_one H = record { positive = omega arith; not_in = λ j h i. let b = chain_has H j i in omega arith }
-
 -- The next chain is one of the table's.
 pub next_chain : {n c k x : ℕ} {s : List ℕ} → Sound n c s → NotBelow n c k x s → k ≤ c → HasChain n c k s
 next_chain H b h = record { sound = H; low = b.positive; high = h }

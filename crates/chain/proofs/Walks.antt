@@ -35,10 +35,6 @@ module _ {n cell : ℕ} {s : List ℕ} (w : Walk n cell s) {next : ℕ} (e : get
     pub shorter : length (follow n s next) < length (follow n s cell)
     shorter = let h = ap length splits in omega arith
 
--- The walk begins at the head's cell.
-pub reached_head : {n head : ℕ} {s : List ℕ} → Walk n head s → Reached n head s head 0
-reached_head w = record { walk = w; place_fits = omega arith; at_is = refl; left = refl }
-
 module _ {n head : ℕ} {s : List ℕ} {at place : ℕ} (r : Reached n head s at place) where
   -- No place is beyond the table's numbers.
   pub place_small : Walk n head s → place ≤ n
@@ -71,9 +67,6 @@ pub record Counting (count : List ℕ → ℕ) (n head : ℕ) (s : List ℕ) (at
   pub reached : Reached n head s at place
   pub next_is : get_or s at 0 ≡ next
   pub counted : place + count (follow n s at) ≡ count (follow n s head)
-
-pub counting_head : (count : List ℕ → ℕ) {n head : ℕ} {s : List ℕ} {next : ℕ} → Walk n head s → get_or s head 0 ≡ next → Counting count n head s head 0 next
-counting_head count w e = record { reached = reached_head w; next_is = e; counted = omega arith }
 
 module _ {count : List ℕ → ℕ} {n head : ℕ} {s : List ℕ} {at place next : ℕ} (k : Counting count n head s at place next) where
   counted_end : count [] ≡ 0 → next ≡ 0 → place ≡ count (follow n s head)

@@ -36,12 +36,6 @@ marked_in marks (y ∷ l) v x h i = go (is_one_of x l) (marked_in (set marks y v
     go (fails f) r (inl e) = marked_not (set marks y v) l v x f ∙ rw e (get_or-set_same marks y v 0 (rw (← e) h))
     go (fails f) r (inr j) = r j
 
--- The walk goes on from the number that it has marked.
-pub marking_on : {n cell v : ℕ} {s marks : List ℕ} {next : ℕ} → Marking n cell v s marks → next ≤ n → Marking n next v s (set marks next v)
-marking_on {v = v} {marks = marks} {next} w top =
-    let k = w.keys_fit in
-    record { cells_count = w.cells_count; marks_count = length-set marks next v ∙ w.marks_count; keys_fit = k; cell_fits = omega arith; mark_positive = w.mark_positive }
-
 -- What each step of the walk has found.
 module _ {n cell v left : ℕ} {s marks : List ℕ} (w : Marking n cell v s marks) {next : ℕ} (e : get_or s cell 0 ≡ next) where
   pub mark_end : next ≡ 0 → MarkTested n cell v left s marks marks true
@@ -59,12 +53,6 @@ module _ {n cell v left : ℕ} {s marks : List ℕ} (w : Marking n cell v s mark
   mark_fails h = record { size = refl; if_true = λ b. absurd (true≢false (sym b)); if_false = λ b. h }
 
   module _ (f : next ≢ 0) where
-    pub mark_long : left ≡ 0 → MarkTested n cell v left s marks marks false
-    mark_long z = mark_fails λ l c h u. let g = ap length (leads c e f).split in omega arith
-
-    pub mark_beyond : n < next → MarkTested n cell v left s marks marks false
-    mark_beyond z = mark_fails λ l c h u. let g = (leads c e f).in_table in omega arith
-
     pub mark_met : get_or marks next 0 ≢ 0 → MarkTested n cell v left s marks marks false
     mark_met z = mark_fails λ l c h u. z (u next (rw (leads c e f).split (here refl)))
 

@@ -2,78 +2,57 @@
 // cells hold. "Sound" is document 01's word ("A sound record").
 #![tactic(auto)]
 
-ghost use Rattle.std.specs.Prelude.{◌≡◌, [], ◌≤◌, length, get_or, replicate};
+ghost use Rattle.std.specs.Prelude.{◌≡◌, [], ◌≤◌, get_or, replicate};
 ghost use Rattle.lists.specs.Lists.{InOrder};
 ghost use Rattle.lists.specs.Tests.{Whether};
 ghost use Rattle.chain.specs.Table.{key_cells, follow, lists, keys_of, Room};
 ghost use Rattle.chain.specs.Walks.{Walk, Marking, MarkTested, FourEmpty};
 ghost use Rattle.chain.specs.Changes.{HasChain, Tested};
 
-use chain::{CELLS, KEY_CELLS};
-
-// A number as an index of an array.
-fn wide(x: u8) -> usize
-    ensures { result ≡ x }
-{
-    x as usize
-}
+use chain::{Chains, KEY_CELLS, Size};
 
 // Whether the keys behind a cell lie between `least` and `most`, with none smaller than the one before it.
-fn in_order_from<'a>(
-    link: &'a [u8; CELLS],
-    key: &'a [u8; KEY_CELLS],
-    numbers: usize,
-    cell: usize,
-    least: u8,
-    most: u8,
-) -> bool
-    requires { Walk numbers cell link.now × (length key.now ≡ key_cells) }
-    ensures { Whether (InOrder least most (keys_of key.now (follow numbers link.now cell))) result }
+fn in_order_from(table: &Chains, numbers: usize, cell: usize, least: u8, most: u8) -> bool
+    requires { Walk numbers cell table.now.link }
+    ensures { Whether (InOrder least most (keys_of table.now.key (follow numbers table.now.link cell))) result }
 {
-    let next = wide(link[cell]);
+    let next = table.link[cell] as usize;
     if next == 0 {
         return true;
     }
-    let next_key = key[next];
+    let next_key = table.key[next];
     if next_key < least {
         return false;
     }
     if most < next_key {
         return false;
     }
-    in_order_from(link, key, numbers, next, next_key, most)
+    in_order_from(table, numbers, next, next_key, most)
 }
 
 // Whether the keys of a chain lie between `least` and `most`, with none smaller than the one before it.
-pub fn in_order<'a>(
-    link: &'a [u8; CELLS],
-    key: &'a [u8; KEY_CELLS],
-    numbers: usize,
-    chains: usize,
-    chain: usize,
-    least: u8,
-    most: u8,
-) -> bool
-    requires { HasChain numbers chains chain link.now × (length key.now ≡ key_cells) }
-    ensures { Whether (InOrder least most (keys_of key.now (get_or (lists numbers chains link.now) chain []))) result }
+pub fn in_order(table: &Chains, size: Size, chain: usize, least: u8, most: u8) -> bool
+    requires { HasChain size.numbers size.chains chain table.now.link }
+    ensures { Whether (InOrder least most (keys_of table.now.key (get_or (lists size.numbers size.chains table.now.link) chain []))) result }
 {
-    in_order_from(link, key, numbers, numbers + chain, least, most)
+    let numbers = size.numbers;
+    in_order_from(table, numbers, numbers + chain, least, most)
 }
 
 // Follows the chain behind a cell for at most `left` numbers and marks each. False where the chain is longer, or meets a number
 // that isn't the table's or is marked already.
 fn mark(
-    link: &[u8; CELLS],
+    table: &Chains,
     marks: &mut [u8; KEY_CELLS],
     numbers: usize,
     cell: usize,
     chain: u8,
     left: usize,
 ) -> bool
-    requires { Marking numbers cell chain link.now marks.old }
-    ensures { MarkTested numbers cell chain left link.now marks.old marks.new result }
+    requires { Marking numbers cell chain table.now.link marks.old }
+    ensures { MarkTested numbers cell chain left table.now.link marks.old marks.new result }
 {
-    let next = wide(link[cell]);
+    let next = table.link[cell] as usize;
     if next == 0 {
         return true;
     }
@@ -87,40 +66,39 @@ fn mark(
         return false;
     }
     marks[next] = chain;
-    mark(link, marks, numbers, next, chain, left - 1)
+    mark(table, marks, numbers, next, chain, left - 1)
 }
 
 // Whether this chain and the three after it are chains of the table, all of them empty. Most chains of a table are empty, and the
 // compiler tests four heads at once.
-fn four_empty(link: &[u8; CELLS], numbers: usize, chains: usize, chain: usize) -> bool
-    requires { Room numbers chains link.now × (chain ≤ chains) }
-    ensures { Whether (FourEmpty numbers chains chain link.now) result }
+fn four_empty(table: &Chains, size: Size, chain: usize) -> bool
+    requires { Room size.numbers size.chains table.now.link × (chain ≤ size.chains) }
+    ensures { Whether (FourEmpty size.numbers size.chains chain table.now.link) result }
 {
-    if chains < chain + 3 {
+    if size.chains < chain + 3 {
         return false;
     }
-    let head = numbers + chain;
+    let link = &table.link;
+    let head = size.numbers + chain;
     (link[head] == 0) & (link[head + 1] == 0) & (link[head + 2] == 0) & (link[head + 3] == 0)
 }
 
 // Whether a table is sound, whatever its cells hold. `standing`, lent with zeros, then has for each number the chain that it
 // stands in. Where the table isn't sound it has zeros again.
-pub fn sound(
-    link: &[u8; CELLS],
-    numbers: usize,
-    chains: usize,
-    standing: &mut [u8; KEY_CELLS],
-) -> bool
-    requires { Room numbers chains link.now × (standing.old ≡ replicate key_cells 0) }
-    ensures { Tested numbers chains link.now standing.new result }
+pub fn sound(table: &Chains, size: Size, standing: &mut [u8; KEY_CELLS]) -> bool
+    requires { Room size.numbers size.chains table.now.link × (standing.old ≡ replicate key_cells 0) }
+    ensures { Tested size.numbers size.chains table.now.link standing.new result }
 {
+    let numbers = size.numbers;
+    let chains = size.chains;
+    // A while: a step passes one chain or four, which no range says.
     let mut chain: usize = 1;
     while chain <= chains {
-        if four_empty(link, numbers, chains, chain) {
+        if four_empty(table, size, chain) {
             chain += 4;
         } else {
             if !mark(
-                link,
+                table,
                 standing,
                 numbers,
                 numbers + chain,

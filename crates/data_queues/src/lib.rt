@@ -10,7 +10,7 @@ ghost use Rattle.record.specs.Step.{Does};
 ghost use Rattle.data_queues.specs.Premises.{queue_in, AtQueue, Creatable};
 
 use model::Code;
-use parts::{DLT, OK, Queue, RECEIVERS, TASK_CHAINS, TASKS};
+use parts::{OK, Queue, RECEIVERS, TASK_TABLE};
 use record::{State, Step};
 use ring::Ring;
 
@@ -20,15 +20,13 @@ pub fn create(mut state: State, queue: u8, attribute: u8, capacity: u8) -> Step
     requires { Creatable state queue capacity }
     ensures { Does (create queue attribute capacity) state result }
 {
-    let q = queue as usize;
     let ring = Ring::new(capacity);
-    let created = Queue {
+    state.queues[queue as usize] = Queue {
         ring,
         defined: 1,
         attribute,
         spare: 0,
     };
-    state.queues[q] = created;
     let answer = record::finished(Code::Ok, 0, 0, 0);
     Step { state, answer }
 }
@@ -39,25 +37,15 @@ pub fn delete(mut state: State, queue: u8) -> Step
     ensures { Does (delete queue (queue_in state queue)) state result }
 {
     let q = queue as usize;
-    while chain::first(&state.waiting.link, TASKS, TASK_CHAINS, q) != 0 {
-        let sender = chain::pop(&mut state.waiting.link, TASKS, TASK_CHAINS, q) as usize;
-        let ended = parts::ended(state.tasks[sender], DLT, 0);
-        state.tasks[sender] = ended;
-    }
-    let receivers = RECEIVERS + q;
-    while chain::first(&state.waiting.link, TASKS, TASK_CHAINS, receivers) != 0 {
-        let receiver = chain::pop(&mut state.waiting.link, TASKS, TASK_CHAINS, receivers) as usize;
-        let ended = parts::ended(state.tasks[receiver], DLT, 0);
-        state.tasks[receiver] = ended;
-    }
+    waits::end_all(&mut state, q);
+    waits::end_all(&mut state, RECEIVERS + q);
     let ring = Ring::new(0);
-    let undefined = Queue {
+    state.queues[q] = Queue {
         ring,
         defined: 0,
         attribute: 0,
         spare: 0,
     };
-    state.queues[q] = undefined;
     let answer = record::finished(Code::Ok, 0, 0, 0);
     Step { state, answer }
 }
@@ -70,7 +58,7 @@ pub fn deliver(mut state: State, queue: u8, word: u32) -> Step
     ensures { Does (deliver queue (queue_in state queue) word) state result }
 {
     let receivers = RECEIVERS + queue as usize;
-    let t = chain::pop(&mut state.waiting.link, TASKS, TASK_CHAINS, receivers) as usize;
+    let t = state.waiting.pop(TASK_TABLE, receivers) as usize;
     state.tasks[t] = parts::ended(state.tasks[t], OK, word);
     let answer = record::finished(Code::Ok, 0, 0, 0);
     Step { state, answer }
@@ -81,16 +69,7 @@ pub fn store(mut state: State, queue: u8, word: u32) -> Step
     requires { AtQueue state queue × T (has_room (queue_in state queue)) }
     ensures { Does (store queue (queue_in state queue) word) state result }
 {
-    let q = queue as usize;
-    let old = state.queues[q];
-    let ring = old.ring.push(word);
-    let stored = Queue {
-        ring,
-        defined: old.defined,
-        attribute: old.attribute,
-        spare: old.spare,
-    };
-    state.queues[q] = stored;
+    state.queues[queue as usize].ring.push(word);
     let answer = record::finished(Code::Ok, 0, 0, 0);
     Step { state, answer }
 }
@@ -100,16 +79,7 @@ pub fn replace_oldest(mut state: State, queue: u8, word: u32) -> Step
     requires { AtQueue state queue × T (not (empty (queue_in state queue).words)) }
     ensures { Does (replace_oldest queue (queue_in state queue) word) state result }
 {
-    let q = queue as usize;
-    let old = state.queues[q];
-    let ring = old.ring.drop_oldest_and_push(word);
-    let replaced = Queue {
-        ring,
-        defined: old.defined,
-        attribute: old.attribute,
-        spare: old.spare,
-    };
-    state.queues[q] = replaced;
+    state.queues[queue as usize].ring.drop_oldest_and_push(word);
     let answer = record::finished(Code::Ok, 0, 0, 0);
     Step { state, answer }
 }
@@ -121,18 +91,8 @@ pub fn take_oldest(mut state: State, queue: u8) -> Step
     requires { AtQueue state queue × T (not (empty (queue_in state queue).words)) }
     ensures { Does (take_oldest queue (queue_in state queue)) state result }
 {
-    let q = queue as usize;
-    let old = state.queues[q];
-    let taken = old.ring.pop();
-    let ring = taken.ring;
-    let changed = Queue {
-        ring,
-        defined: old.defined,
-        attribute: old.attribute,
-        spare: old.spare,
-    };
-    state.queues[q] = changed;
-    let answer = record::finished(Code::Ok, taken.word, 0, 0);
+    let taken = state.queues[queue as usize].ring.pop();
+    let answer = record::finished(Code::Ok, taken, 0, 0);
     Step { state, answer }
 }
 
@@ -142,23 +102,14 @@ pub fn take_oldest_and_refill(mut state: State, queue: u8) -> Step
     ensures { Does (take_oldest_and_refill queue (queue_in state queue)) state result }
 {
     let q = queue as usize;
-    let t = chain::pop(&mut state.waiting.link, TASKS, TASK_CHAINS, q) as usize;
+    let t = state.waiting.pop(TASK_TABLE, q) as usize;
     let sender = state.tasks[t];
-    let wait = sender.wait;
-    let word = parts::held_word(wait);
-    let released = parts::ended(sender, OK, 0);
-    state.tasks[t] = released;
-    let old = state.queues[q];
-    let oldest = old.ring.pop();
-    let ring = oldest.ring.push(word);
-    let changed = Queue {
-        ring,
-        defined: old.defined,
-        attribute: old.attribute,
-        spare: old.spare,
-    };
-    state.queues[q] = changed;
-    let answer = record::finished(Code::Ok, oldest.word, 0, 0);
+    let word = parts::held_word(sender.wait);
+    state.tasks[t] = parts::ended(sender, OK, 0);
+    let ring = &mut state.queues[q].ring;
+    let oldest = ring.pop();
+    ring.push(word);
+    let answer = record::finished(Code::Ok, oldest, 0, 0);
     Step { state, answer }
 }
 
@@ -168,10 +119,9 @@ pub fn take_from_sender(mut state: State, queue: u8) -> Step
     ensures { Does (take_from_sender queue (queue_in state queue)) state result }
 {
     let q = queue as usize;
-    let t = chain::pop(&mut state.waiting.link, TASKS, TASK_CHAINS, q) as usize;
+    let t = state.waiting.pop(TASK_TABLE, q) as usize;
     let holder = state.tasks[t];
-    let wait = holder.wait;
-    let word = parts::held_word(wait);
+    let word = parts::held_word(holder.wait);
     state.tasks[t] = parts::ended(holder, OK, 0);
     let answer = record::finished(Code::Ok, word, 0, 0);
     Step { state, answer }

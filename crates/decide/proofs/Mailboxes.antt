@@ -55,7 +55,7 @@ module _ (n : ℕ) (c : Call) {m : Model} {y : Seen} (a : Taken m (numbered n c)
 
 -- ── Receiving ──
 
--- A receive from a mailbox that is there: its effect runs as `receive-message` does, with this as the second case.
+-- A receive from a mailbox that is there: its effect runs as `receive_message` does, with this as the second case.
 record ReceivesAs (m : Model) (y : Seen) (otherwise : Effect) (c : Call) : Type 0 where
   at : MailboxThere m c.object
   shown : ShowsMailbox (m.rows (mailbox c.object)) y.mailbox

@@ -5,8 +5,8 @@ use Rattle.lists.proofs.Each.{each_of_all}
 use Rattle.rows.specs.Program.{run, step_of}
 use Rattle.errors.specs.Seen.{ShowsQueue, ShowsMailbox}
 use Rattle.errors.specs.declared.Seen.{Seen}
-use Rattle.model.specs.Rows.{task, suspension, queue, mailbox, message, valid, same_key, Model, Effect}
-use Rattle.model.specs.Calls.{names_task, reads_suspension, names_queue, names_mailbox, names_message, message_of, task_only, has_tmout, View, view_of}
+use Rattle.model.specs.Rows.{task, queue, mailbox, message, valid, same_key, Model, Effect}
+use Rattle.model.specs.Calls.{names_task, names_queue, names_mailbox, names_message, message_of, task_only, has_tmout, View, view_of}
 use Rattle.model.specs.Errors.{refused}
 use Rattle.model.specs.Step.{effect, step}
 use Rattle.model.specs.declared.Call.{Call}
@@ -18,7 +18,7 @@ use Rattle.model.proofs.Accepted as model
 use Rattle.model.proofs.Checked.{caller_defined, caller_able}
 use Rattle.model.proofs.KeptCalls.{Valid}
 use Rattle.model.proofs.Step.{step_call, run_accepted, numbered}
-use Rattle.model.proofs.Shown.{shown_caller, shown_task, shown_suspension, shown_queue, shown_mailbox, shown_message}
+use Rattle.model.proofs.Shown.{shown_caller, shown_task, shown_queue, shown_mailbox, shown_message}
 use Rattle.decide.specs.Decisions.{ran, after, Ready, Taken, CanWait, Decided}
 use Rattle.decide.specs.declared.Decision.{Decision}
 
@@ -73,9 +73,6 @@ module _ (n : ℕ) (c : Call) {m : Model} {y : Seen} (a : Taken m (numbered n c)
 
   pub the_task_is : T (names_task call) → view.the_task ≡ m.rows (task c.object)
   the_task_is t = shown_task m call t (valid_task t)
-
-  pub suspended_is : T (reads_suspension call) → view.suspended ≡ m.rows (suspension c.object)
-  suspended_is t = shown_suspension m call t (valid_task (reads_named call t))
 
   pub the_queue_is : T (names_queue call) → view.the_queue ≡ m.rows (queue c.object)
   the_queue_is t = shown_queue m call t (valid_queue t)

@@ -1,6 +1,5 @@
 -- The calls on tasks: what is seen is the task's own row, so each decision is its case.
-use Rattle.std.proofs.Common.{◌≡◌, ℕ, ◌%◌, ◌≤◌, Bool, true, false, cond, refl, arith, nltb→le}
-use mir.Val.{bool_byte}
+use Rattle.std.proofs.Common.{◌≡◌, ℕ, ◌%◌, ◌≤◌, true, false, cond, refl, arith, nltb→le}
 use Rattle.lists.specs.Lists.{one_of}
 use Rattle.rows.specs.Program.{return}
 use Rattle.errors.specs.declared.Seen.{Seen}
@@ -20,22 +19,7 @@ use Rattle.model.proofs.Checked.{task_priority, task_waits}
 use Rattle.decide.specs.Decisions.{Taken, Decided}
 use Rattle.decide.specs.declared.Decision.{Decision}
 use Rattle.decide.specs.declared.Decision.TheVariants.{Say, DefineTask, EndWait, Suspend}
-use Rattle.decide.proofs.Taken.{first_or, at_number, passed, valid_task, the_task_is, decided}
-
--- A Boolean cast to a number, as look's c.
-pub bit_of : (b : Bool) → bool_byte b ≡ cond b 1 0
-bit_of true = refl
-bit_of false = refl
-
--- The numbers from 19 to 23 without the first four.
-last_of_five : (n : ℕ) → 19 ≤ n → n ≤ 23 → (n ≡ 19 → ⊥) → (n ≡ 20 → ⊥) → (n ≡ 21 → ⊥) → (n ≡ 22 → ⊥) → n ≡ 23
-last_of_five n low high f g h i =
-    first_or low (λ e. absurd (f e))
-    (λ k. first_or k (λ e. absurd (g e)) (λ l. first_or l (λ e. absurd (h e)) (λ j. first_or j (λ e. absurd (i e)) (λ o. omega (arith, o, high)))))
-
--- The same of the numbers of the calls on tasks.
-pub last : (n : ℕ) → 1 ≤ n → (2 ≤ n → 19 ≤ n) → n ≤ 23 → (n ≡ 1 → ⊥) → (n ≡ 19 → ⊥) → (n ≡ 20 → ⊥) → (n ≡ 21 → ⊥) → (n ≡ 22 → ⊥) → n ≡ 23
-last n some above high e f g h i = last_of_five n (above (first_or some (λ k. absurd (e k)) (λ l. l))) high f g h i
+use Rattle.decide.proofs.Taken.{at_number, passed, valid_task, the_task_is, decided}
 
 module _ {m : Model} {y : Seen} (c : Call) (a : Taken m c y) where
   -- Step 0 has refused the numbers above.

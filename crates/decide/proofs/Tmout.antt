@@ -1,6 +1,6 @@
 -- The end of a wait from its tmout: by the sign of the tmout.
-use Rattle.std.proofs.Common.{◌≡◌, ℕ, ◌+◌, ◌%◌, ◌<◌, true, false, T, ℤ, pos, negsuc, nat_abs, refl, ap, ◌∙◌, subst, arith, w32, SFits, ltb-true}
-use lib.Signed.{lt_z, non_neg}
+use Rattle.std.proofs.Common.{◌≡◌, ℕ, ◌+◌, ◌%◌, true, false, T, ℤ, pos, negsuc, nat_abs, refl, ap, ◌∙◌, subst, arith, ltb-true}
+use lib.Signed.{lt_z}
 use Rattle.model.specs.Sizes.{counter_span}
 use Rattle.model.specs.Waits.{end_of}
 use Rattle.model.specs.declared.End.TheVariants.{Never, At}
@@ -11,15 +11,7 @@ unfolding end_of
 ends_never counter (pos n) h = absurd (let z = ltb-true n 0 h in omega arith)
 ends_never counter (negsuc n) h = refl
 
--- Any other has 31 bits, and in the tick after so many the wait ends.
-pub not_negative : (tmout : ℤ) → lt_z tmout (pos 0) ≡ false → T (non_neg tmout)
-not_negative (pos n) h = tt
-not_negative (negsuc n) h = subst T h tt
-
-pub size_below : (tmout : ℤ) → SFits w32 tmout → lt_z tmout (pos 0) ≡ false → nat_abs tmout < 2147483648
-size_below (pos n) f h = f.sfits
-size_below (negsuc n) f h = absurd (subst T h tt)
-
+-- With any other the wait ends in the tick after so many.
 pub ends_at : (counter tick : ℕ) (tmout : ℤ) → lt_z tmout (pos 0) ≡ false → tick ≡ (counter + (nat_abs tmout + 1)) % counter_span → At tick ≡ end_of counter tmout
 unfolding end_of
 ends_at counter tick (pos n) h e = let same : counter + (n + 1) ≡ counter + n + 1 = omega arith in ap At (e ∙ ap (λ ticks. ticks % counter_span) same)

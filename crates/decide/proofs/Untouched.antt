@@ -17,6 +17,7 @@ use Rattle.model.specs.declared.Wait.TheVariants.{NoWait, Sending, Receiving, At
 use Rattle.decide.specs.Decisions.{ran}
 use Rattle.decide.specs.Touches.{SameTask, Touches, changed_by, LeavesAlone}
 use Rattle.decide.specs.declared.Decision.{Decision}
+use Rattle.decide.specs.declared.Touched.TheVariants.{NoTask, OneTask}
 use Rattle.decide.specs.declared.Decision.TheVariants.{Refuse, Say, Tick, DefineTask, EndWait, Suspend, CreateQueue, DeleteQueue, Deliver, Store, Replace}
 use Rattle.decide.specs.declared.Decision.TheVariants.{TakeOldest, TakeAndRefill, TakeFromSender, CreateMailbox, DeleteMailbox, DeliverMessage, QueueMessage}
 use Rattle.decide.specs.declared.Decision.TheVariants.{TakeMessage, Join}
@@ -107,37 +108,37 @@ same {m} h = record { row = h.row m.rows; suspended = h.suspended m.rows }
 
 -- ── The decisions ──
 
-pub by_define : (t priority : ℕ) → Touches (DefineTask t priority) t
-by_define t priority _ m r j n = same (keeps_put (task t) n (keeps_put (suspension t) n keeps_return))
+pub by_define : (t priority : ℕ) → Touches (DefineTask t priority) (OneTask t)
+by_define t priority m r j n = same (keeps_put (task t) n (keeps_put (suspension t) n keeps_return))
 
-pub by_end_wait : (t : ℕ) → Touches (EndWait t) t
-by_end_wait t _ m r j n = same (keeps_end_wait t _ n keeps_return)
+pub by_end_wait : (t : ℕ) → Touches (EndWait t) (OneTask t)
+by_end_wait t m r j n = same (keeps_end_wait t _ n keeps_return)
 
-pub by_suspend : (t : ℕ) (suspended : Bool) → Touches (Suspend t suspended) t
-by_suspend t suspended _ m r j n = same (keeps_put (suspension t) n keeps_return)
+pub by_suspend : (t : ℕ) (suspended : Bool) → Touches (Suspend t suspended) (OneTask t)
+by_suspend t suspended m r j n = same (keeps_put (suspension t) n keeps_return)
 
-pub by_deliver : (q t word : ℕ) → Touches (Deliver q t word) t
+pub by_deliver : (q t word : ℕ) → Touches (Deliver q t word) (OneTask t)
 unfolding deliver
-by_deliver q t word _ m r j n = same (keeps_put (queue q) tt (keeps_release _ _ _ (λ e. n (e ∙ sym r.2)) keeps_return))
+by_deliver q t word m r j n = same (keeps_put (queue q) tt (keeps_release _ _ _ (λ e. n (e ∙ sym r.2)) keeps_return))
 
-pub by_refill : (q t : ℕ) → Touches (TakeAndRefill q t) t
+pub by_refill : (q t : ℕ) → Touches (TakeAndRefill q t) (OneTask t)
 unfolding take_oldest_and_refill
-by_refill q t _ m r j n = same (keeps_get (λ x. keeps_put (queue q) tt (keeps_put (task _) (λ e. n (e ∙ sym r.3)) keeps_return)))
+by_refill q t m r j n = same (keeps_get (λ x. keeps_put (queue q) tt (keeps_put (task _) (λ e. n (e ∙ sym r.3)) keeps_return)))
 
-pub by_take : (q t : ℕ) → Touches (TakeFromSender q t) t
+pub by_take : (q t : ℕ) → Touches (TakeFromSender q t) (OneTask t)
 unfolding take_from_sender
-by_take q t _ m r j n = same (keeps_get (λ x. keeps_put (queue q) tt (keeps_put (task _) (λ e. n (e ∙ sym r.2)) keeps_return)))
+by_take q t m r j n = same (keeps_get (λ x. keeps_put (queue q) tt (keeps_put (task _) (λ e. n (e ∙ sym r.2)) keeps_return)))
 
-pub by_deliver_message : (b t g : ℕ) → Touches (DeliverMessage b t g) t
+pub by_deliver_message : (b t g : ℕ) → Touches (DeliverMessage b t g) (OneTask t)
 unfolding deliver_message
-by_deliver_message b t g _ m r j n = same (keeps_put (mailbox b) tt (keeps_release _ _ _ (λ e. n (e ∙ sym r.2)) keeps_return))
+by_deliver_message b t g m r j n = same (keeps_put (mailbox b) tt (keeps_release _ _ _ (λ e. n (e ∙ sym r.2)) keeps_return))
 
-pub by_join : (me : ℕ) (ranked : Bool) (wait : Wait) → Touches (Join me ranked wait) me
+pub by_join : (me : ℕ) (ranked : Bool) (wait : Wait) → Touches (Join me ranked wait) (OneTask me)
 unfolding wait_to_send wait_to_receive wait_for_message
-by_join me ranked NoWait _ m r j n = absurd r.1
-by_join me ranked (Sending q end word) _ m r j n = same (keeps_get_each task _ _ (λ keys. keeps_put (queue q) tt (keeps_put (task me) n keeps_return)))
-by_join me ranked (Receiving q end) _ m r j n = same (keeps_put (queue q) tt (keeps_put (task me) n keeps_return))
-by_join me ranked (AtMailbox b end) _ m r j n = same (keeps_get_each task _ _ (λ keys. keeps_put (mailbox b) tt (keeps_put (task me) n keeps_return)))
+by_join me ranked NoWait m r j n = absurd r.1
+by_join me ranked (Sending q end word) m r j n = same (keeps_get_each task _ _ (λ keys. keeps_put (queue q) tt (keeps_put (task me) n keeps_return)))
+by_join me ranked (Receiving q end) m r j n = same (keeps_put (queue q) tt (keeps_put (task me) n keeps_return))
+by_join me ranked (AtMailbox b end) m r j n = same (keeps_get_each task _ _ (λ keys. keeps_put (mailbox b) tt (keeps_put (task me) n keeps_return)))
 
 -- ── The arms that the code doesn't name ──
 
@@ -155,28 +156,28 @@ pub record Unnamed (d : Decision) : Type 0 where
   pub not_delete_queue : (q : ℕ) → d ≡ DeleteQueue q → ⊥
   pub not_delete_mailbox : (b : ℕ) → d ≡ DeleteMailbox b → ⊥
 
-pub no_task : (d : Decision) → Unnamed d → Touches d 0
+pub no_task : (d : Decision) → Unnamed d → Touches d NoTask
 unfolding store replace_oldest take_oldest queue_message take_message
-no_task (Refuse code) h _ m r j n = same keeps_return
-no_task (Say code a b c) h _ m r j n = same keeps_return
-no_task Tick h _ m r j n = absurd (h.not_tick refl)
-no_task (DefineTask t priority) h _ m r j n = absurd (h.not_define t priority refl)
-no_task (EndWait t) h _ m r j n = absurd (h.not_end_wait t refl)
-no_task (Suspend t suspended) h _ m r j n = absurd (h.not_suspend t suspended refl)
-no_task (CreateQueue q attribute capacity) h _ m r j n = same (keeps_put (queue q) tt keeps_return)
-no_task (DeleteQueue q) h _ m r j n = absurd (h.not_delete_queue q refl)
-no_task (Deliver q t word) h _ m r j n = absurd (h.not_deliver q t word refl)
-no_task (Store q word) h _ m r j n = same (keeps_put (queue q) tt keeps_return)
-no_task (Replace q word) h _ m r j n = same (keeps_put (queue q) tt keeps_return)
-no_task (TakeOldest q) h _ m r j n = same (keeps_put (queue q) tt keeps_return)
-no_task (TakeAndRefill q t) h _ m r j n = absurd (h.not_refill q t refl)
-no_task (TakeFromSender q t) h _ m r j n = absurd (h.not_take q t refl)
-no_task (CreateMailbox b attribute highest) h _ m r j n = same (keeps_put (mailbox b) tt keeps_return)
-no_task (DeleteMailbox b) h _ m r j n = absurd (h.not_delete_mailbox b refl)
-no_task (DeliverMessage b t g) h _ m r j n = absurd (h.not_deliver_message b t g refl)
-no_task (QueueMessage b g priority) h _ m r j n = same (keeps_get_each message _ _ (λ keys. keeps_put (mailbox b) tt (keeps_put (message g) tt keeps_return)))
-no_task (TakeMessage b) h _ m r j n = same (keeps_put (mailbox b) tt (keeps_put (message _) tt keeps_return))
-no_task (Join me ranked wait) h _ m r j n = absurd (h.not_join me ranked wait refl)
+no_task (Refuse code) h m r j n = same keeps_return
+no_task (Say code a b c) h m r j n = same keeps_return
+no_task Tick h m r j n = absurd (h.not_tick refl)
+no_task (DefineTask t priority) h m r j n = absurd (h.not_define t priority refl)
+no_task (EndWait t) h m r j n = absurd (h.not_end_wait t refl)
+no_task (Suspend t suspended) h m r j n = absurd (h.not_suspend t suspended refl)
+no_task (CreateQueue q attribute capacity) h m r j n = same (keeps_put (queue q) tt keeps_return)
+no_task (DeleteQueue q) h m r j n = absurd (h.not_delete_queue q refl)
+no_task (Deliver q t word) h m r j n = absurd (h.not_deliver q t word refl)
+no_task (Store q word) h m r j n = same (keeps_put (queue q) tt keeps_return)
+no_task (Replace q word) h m r j n = same (keeps_put (queue q) tt keeps_return)
+no_task (TakeOldest q) h m r j n = same (keeps_put (queue q) tt keeps_return)
+no_task (TakeAndRefill q t) h m r j n = absurd (h.not_refill q t refl)
+no_task (TakeFromSender q t) h m r j n = absurd (h.not_take q t refl)
+no_task (CreateMailbox b attribute highest) h m r j n = same (keeps_put (mailbox b) tt keeps_return)
+no_task (DeleteMailbox b) h m r j n = absurd (h.not_delete_mailbox b refl)
+no_task (DeliverMessage b t g) h m r j n = absurd (h.not_deliver_message b t g refl)
+no_task (QueueMessage b g priority) h m r j n = same (keeps_get_each message _ _ (λ keys. keeps_put (mailbox b) tt (keeps_put (message g) tt keeps_return)))
+no_task (TakeMessage b) h m r j n = same (keeps_put (mailbox b) tt (keeps_put (message _) tt keeps_return))
+no_task (Join me ranked wait) h m r j n = absurd (h.not_join me ranked wait refl)
 
 -- What is no refusal and says nothing may change the state.
 pub rest_changes : (d : Decision) → ((code : Code) → d ≡ Refuse code → ⊥) → ((code : Code) (a b c : ℕ) → d ≡ Say code a b c → ⊥)

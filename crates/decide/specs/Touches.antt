@@ -1,24 +1,28 @@
 -- Which rows of tasks a decision may change, and whether it changes anything.
-use Rattle.std.specs.Prelude.{◌≡◌, ℕ, Bool, true, false, not, T, ◌≢◌}
+use Rattle.std.specs.Prelude.{◌≡◌, ℕ, Bool, true, false, not, T}
 use Rattle.model.specs.Rows.{task, suspension, Model}
 use Rattle.decide.specs.Decisions.{after, Ready}
+use Rattle.decide.specs.declared.Touched.{Touched}
+use Rattle.decide.specs.declared.Touched.TheVariants.{NoTask, OneTask, EveryTask}
 use Rattle.decide.specs.declared.Decision.{Decision}
 use Rattle.decide.specs.declared.Decision.TheVariants.{Refuse, Say, Tick, DefineTask, EndWait, Suspend, CreateQueue, DeleteQueue, Deliver, Store}
 use Rattle.decide.specs.declared.Decision.TheVariants.{Replace, TakeOldest, TakeAndRefill, TakeFromSender, CreateMailbox, DeleteMailbox}
 use Rattle.decide.specs.declared.Decision.TheVariants.{DeliverMessage, QueueMessage, TakeMessage, Join}
-
--- Stands for any of the tasks; no task has this number.
-abbrev pub every_task : ℕ
-every_task = 255
 
 -- What the state says of a task, its row and its suspension, stays.
 pub record SameTask (m n : Model) (t : ℕ) : Type 0 where
   pub row : n.rows (task t) ≡ m.rows (task t)
   pub suspended : n.rows (suspension t) ≡ m.rows (suspension t)
 
--- Of one task, which r is; of none, where r is 0, which is no task's number; or of any.
-abbrev pub Touches : Decision → ℕ → Type 0
-Touches d r = r ≢ every_task → (m : Model) → Ready m d → (t : ℕ) → t ≢ r → SameTask m (after m d).state t
+-- The tasks that r speaks of.
+abbrev pub Covers : Touched → ℕ → Type 0
+Covers NoTask t = ⊥
+Covers (OneTask u) t = t ≡ u
+Covers EveryTask t = Unit
+
+-- Every other task stays.
+abbrev pub Touches : Decision → Touched → Type 0
+Touches d r = (m : Model) → Ready m d → (t : ℕ) → (Covers r t → ⊥) → SameTask m (after m d).state t
 
 -- All but a refusal and an answer may change the state; those leave it as it is (`LeavesAlone`).
 abbrev pub changed_by : Decision → Bool

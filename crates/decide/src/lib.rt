@@ -6,7 +6,7 @@ ghost use Rattle.std.specs.Prelude.{◌≡◌, ◌%◌, ◌≤◌, not, T, if◌
 ghost use Rattle.model.specs.Rows.{Model};
 ghost use Rattle.model.specs.Calls as calls;
 ghost use Rattle.model.specs.Waits as waits;
-ghost use Rattle.model.specs.declared.Code.TheVariants.{Ok as E-OK};
+ghost use Rattle.model.specs.declared.Code.TheVariants.{Ok as E_OK};
 ghost use Rattle.model.specs.declared.End.TheVariants.{Never};
 ghost use Rattle.errors.specs.Seen.{SeenFor};
 ghost use Rattle.decide.specs.Decisions.{after, Taken, Decided};
@@ -91,30 +91,22 @@ pub enum Decision {
 // ── What the fields say ──
 
 // Of a field that the error table lets pass, which is small: the number itself.
+// No cast of x alone: that x is small is said of the rows seen, in the clauses of those who call this, and no requires says it.
 fn low_byte(x: u32) -> u8
     ensures { result ≡ x % 256 }
 {
     (x % 256) as u8
 }
 
-// The highest message priority is kept with attribute 2 or 3 alone.
-fn kept(ranked: bool, highest: u32) -> u8
-    ensures { result ≡ (if ranked then highest % 256 else 0) }
-{
-    if ranked {
-        return low_byte(highest);
-    }
-    0
-}
-
 // The end of a wait that starts now: in tick tmout + 1 from here, modulo the counter's span (document 02, item 1). A tmout of -1 sets none.
+// The sign is tested and the number cast: a match on u32::try_from(tmout) has the same two cases and is no shorter.
 fn end_of(counter: u32, tmout: i32) -> End
     ensures { result ≡ waits.end_of counter tmout }
 {
     if tmout < 0 {
         return End::Never;
     }
-    End::At(std::num::wrapping_add_u32(counter, tmout as u32 + 1))
+    End::At(counter.wrapping_add(tmout as u32 + 1))
 }
 
 // Of the calls that may wait, those without a tmout wait for ever.
@@ -198,28 +190,19 @@ fn on_queue(call: Call, seen: Seen) -> Decision
     requires at_most { call.number ≤ 11 }
     ensures { (m : Model) → Taken m call seen → Decided m call result }
 {
-    let number = call.number;
     let queue = call.object;
-    if number == 2 {
-        let attribute = low_byte(call.attribute);
-        let capacity = low_byte(call.value);
-        return Decision::CreateQueue(queue, attribute, capacity);
-    }
-    if number == 3 {
-        return Decision::DeleteQueue(queue);
-    }
-    if number <= 7 {
-        return send(call, seen);
-    }
-    if number <= 10 {
-        return receive(call, seen);
-    }
     let row = seen.queue;
-    Decision::Say {
-        code: Code::Ok,
-        a: row.sender as u32,
-        b: row.receiver as u32,
-        c: row.count as u32,
+    match call.number {
+        2 => Decision::CreateQueue(queue, low_byte(call.attribute), low_byte(call.value)),
+        3 => Decision::DeleteQueue(queue),
+        4..=7 => send(call, seen),
+        8..=10 => receive(call, seen),
+        _ => Decision::Say {
+            code: Code::Ok,
+            a: u32::from(row.sender),
+            b: u32::from(row.receiver),
+            c: u32::from(row.count),
+        },
     }
 }
 
@@ -273,28 +256,24 @@ fn on_mailbox(call: Call, seen: Seen) -> Decision
     requires at_most { call.number ≤ 18 }
     ensures { (m : Model) → Taken m call seen → Decided m call result }
 {
-    let number = call.number;
     let mailbox = call.object;
-    if number == 12 {
-        let attribute = low_byte(call.attribute);
-        let highest = kept(errors::messages_by_priority(call.attribute), call.value);
-        return Decision::CreateMailbox(mailbox, attribute, highest);
-    }
-    if number == 13 {
-        return Decision::DeleteMailbox(mailbox);
-    }
-    if number == 14 {
-        return send_message(call, seen);
-    }
-    if number <= 17 {
-        return receive_message(call, seen);
-    }
     let row = seen.mailbox;
-    Decision::Say {
-        code: Code::Ok,
-        a: row.waiter as u32,
-        b: row.message as u32,
-        c: 0,
+    match call.number {
+        12 => {
+            // The highest message priority is kept with attribute 2 or 3 alone.
+            let by_priority = errors::messages_by_priority(call.attribute);
+            let highest = if by_priority { low_byte(call.value) } else { 0 };
+            Decision::CreateMailbox(mailbox, low_byte(call.attribute), highest)
+        }
+        13 => Decision::DeleteMailbox(mailbox),
+        14 => send_message(call, seen),
+        15..=17 => receive_message(call, seen),
+        _ => Decision::Say {
+            code: Code::Ok,
+            a: u32::from(row.waiter),
+            b: u32::from(row.message),
+            c: 0,
+        },
     }
 }
 
@@ -302,17 +281,13 @@ fn on_mailbox(call: Call, seen: Seen) -> Decision
 
 // Call 22.
 fn look(row: TaskSeen) -> Decision
-    ensures { result ≡ Say E-OK (waits.wait_number row.wait) (waits.wait_object row.wait) (if row.suspended then 1 else 0) }
+    ensures { result ≡ Say E_OK (waits.wait_number row.wait) (waits.wait_object row.wait) (if row.suspended then 1 else 0) }
 {
-    let wait = row.wait;
-    let number = parts::wait_number(wait);
-    let object = parts::wait_object(wait);
-    let suspended = row.suspended;
     Decision::Say {
         code: Code::Ok,
-        a: number as u32,
-        b: object as u32,
-        c: suspended as u32,
+        a: u32::from(parts::wait_number(row.wait)),
+        b: u32::from(parts::wait_object(row.wait)),
+        c: u32::from(row.suspended),
     }
 }
 
@@ -322,37 +297,29 @@ fn on_task(call: Call, seen: Seen) -> Decision
     requires not_of_an_object { 2 ≤ call.number → 19 ≤ call.number }
     ensures { (m : Model) → Taken m call seen → Decided m call result }
 {
-    let number = call.number;
     let task = call.object;
     let row = seen.task;
-    if number == 1 {
-        let priority = low_byte(call.value);
-        return Decision::DefineTask { task, priority };
-    }
-    if number == 19 {
-        return Decision::EndWait(task);
-    }
-    if number == 20 {
-        return Decision::Suspend {
+    match call.number {
+        1 => Decision::DefineTask {
+            task,
+            priority: low_byte(call.value),
+        },
+        19 => Decision::EndWait(task),
+        20 => Decision::Suspend {
             task,
             suspended: true,
-        };
-    }
-    if number == 21 {
-        return Decision::Suspend {
+        },
+        21 => Decision::Suspend {
             task,
             suspended: false,
-        };
-    }
-    if number == 22 {
-        return look(row);
-    }
-    let code = row.code;
-    Decision::Say {
-        code,
-        a: row.word,
-        b: 0,
-        c: 0,
+        },
+        22 => look(row),
+        _ => Decision::Say {
+            code: row.code,
+            a: row.word,
+            b: 0,
+            c: 0,
+        },
     }
 }
 
@@ -365,8 +332,7 @@ pub fn decide(call: Call, seen: Seen) -> Decision
     if call.number == 0 {
         return Decision::Tick;
     }
-    let code = errors::refusal(call, seen);
-    if !errors::accepts(code) {
+    if let Err(code) = errors::refusal(call, seen) {
         return Decision::Refuse(code);
     }
     if names::names_queue(call) {
@@ -380,25 +346,30 @@ pub fn decide(call: Call, seen: Seen) -> Decision
 
 // ── What a decision changes ──
 
-pub const EVERY_TASK: u8 = 255;
+#[derive(Clone, Copy)]
+pub enum Touched {
+    NoTask,
+    OneTask(u8),
+    EveryTask,
+}
 
-// The task whose row it may change: one, none (0), or any of them.
-pub fn touches(decision: Decision) -> u8
+// The task whose row it may change: none, one, or any of them.
+pub fn touches(decision: Decision) -> Touched
     ensures { Touches decision result }
 {
     match decision {
-        Decision::DefineTask { task, priority: _ } => task,
-        Decision::EndWait(task) => task,
-        Decision::Suspend { task, suspended: _ } => task,
-        Decision::Deliver { task, .. } => task,
-        Decision::TakeAndRefill { queue: _, task } => task,
-        Decision::TakeFromSender { queue: _, task } => task,
-        Decision::DeliverMessage { task, .. } => task,
-        Decision::Join { me, .. } => me,
-        Decision::Tick => EVERY_TASK,
-        Decision::DeleteQueue(_) => EVERY_TASK,
-        Decision::DeleteMailbox(_) => EVERY_TASK,
-        _ => 0,
+        Decision::DefineTask { task, .. } => Touched::OneTask(task),
+        Decision::EndWait(task) => Touched::OneTask(task),
+        Decision::Suspend { task, .. } => Touched::OneTask(task),
+        Decision::Deliver { task, .. } => Touched::OneTask(task),
+        Decision::TakeAndRefill { task, .. } => Touched::OneTask(task),
+        Decision::TakeFromSender { task, .. } => Touched::OneTask(task),
+        Decision::DeliverMessage { task, .. } => Touched::OneTask(task),
+        Decision::Join { me, .. } => Touched::OneTask(me),
+        Decision::Tick => Touched::EveryTask,
+        Decision::DeleteQueue(_) => Touched::EveryTask,
+        Decision::DeleteMailbox(_) => Touched::EveryTask,
+        _ => Touched::NoTask,
     }
 }
 

@@ -48,7 +48,7 @@ IsolatedFromEmpty {S} {C} {A} E F =
 
 -- ── Any number of carriers ──
 
--- `MergeOf same-owner lists turns`: the turns, each an owner with a call, hold the owners' lists, each in its own order, and nothing else. `share same-owner i`
+-- `MergeOf same_owner lists turns`: the turns, each an owner with a call, hold the owners' lists, each in its own order, and nothing else. `share same_owner i`
 -- is what of the turns is owner i's.
 pub record AllUndisturbed {I S C A N : Type 0} (same_owner : Discrete I) (E : Engine S) (Steps : S → C → S → A → Type 0) (values_of : A → N) (s : S)
     (lists : I → List C) : Type 0 where

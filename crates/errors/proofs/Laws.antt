@@ -1,8 +1,9 @@
 -- What the tests of a suspension see; and a call is refused exactly where its refusal isn't E_OK, since no row of the table has that code.
-use mathlib.Core.Path.{◌≡◌, refl, ap}
+use mathlib.Core.Path.{◌≡◌, refl, ap, subst}
 use mathlib.Core.Bool.{Bool, true, false, not, ◌&&◌, ◌||◌, cond}
 use mathlib.Core.List.{List}
 use lib.Dec.{T, eqb}
+use Rattle.std.specs.Prelude.{⊤, Result, Ok as Accepted, Err as Refused, is_ok as is_accepted}
 use mir.Facts.{T_not-not}
 use Rattle.lists.specs.Lists.{Each, none, both, every, one_of}
 use Rattle.lists.proofs.Each.{each_of_every}
@@ -12,7 +13,7 @@ use Rattle.model.specs.declared.Code.{Code}
 use Rattle.model.specs.Errors.{ErrorRow, rows_to_step_4, rows_from_step_5, error_table, some_applies, first_that_applies, refused, refusal}
 use Rattle.model.proofs.Tests.{or_left, or_right, is_false}
 use Rattle.errors.specs.declared.Seen.{Seen}
-use Rattle.errors.specs.Seen.{Shows, is_ok}
+use Rattle.errors.specs.Seen.{Shows, is_ok, refusal_of}
 
 -- ── What is seen of a named task's suspension serves the two rows that ask for it ──
 
@@ -54,8 +55,29 @@ ok_exactly : (v : View) (c : Call) → is_ok (refusal v c) ≡ not (refused v c)
 unfolding refusal refused
 ok_exactly v c = none_applies (table_refuses v c)
 
-pub accepted : (v : View) (c : Call) → T (is_ok (refusal v c)) → T (not (refused v c))
-accepted v c t = rw (ok_exactly v c) at t
+-- What the code answers: no refusal where the code of the table is E_OK, else a refusal with this code.
+abbrev answer : Bool → Code → Result ⊤ Code
+answer ok code = cond ok (Accepted tt) (Refused code)
 
-pub not_accepted : (v : View) (c : Call) → T (not (is_ok (refusal v c))) → T (refused v c)
-not_accepted v c t = T_not-not (refused v c) (rw (ok_exactly v c) at t)
+abbrev pub no_refusal : Result ⊤ Code
+no_refusal = Accepted tt
+
+abbrev code_or : Code → Result ⊤ Code → Code
+code_or other (Accepted x) = other
+code_or other (Refused code) = code
+
+none_by : (ok : Bool) (code : Code) → no_refusal ≡ answer ok code → T ok
+none_by true code e = tt
+none_by false code e = subst (λ (x : Result ⊤ Code). T (is_accepted x)) e tt
+
+with_code : (ok : Bool) (code found : Code) → Refused found ≡ answer ok code → (found ≡ code) × T (not ok)
+with_code true code found e = absurd (subst (λ (x : Result ⊤ Code). T (not (is_accepted x))) e tt)
+with_code false code found e = (ap (code_or found) e, tt)
+
+pub accepted : (v : View) (c : Call) → no_refusal ≡ refusal_of (refusal v c) → T (not (refused v c))
+accepted v c e = let ok = none_by (is_ok (refusal v c)) (refusal v c) e in rw (ok_exactly v c) at ok
+
+pub not_accepted : (v : View) (c : Call) (code : Code) → Refused code ≡ refusal_of (refusal v c) → (code ≡ refusal v c) × T (refused v c)
+not_accepted v c code e =
+    let by_code = with_code (is_ok (refusal v c)) (refusal v c) code e in
+    (by_code.0, T_not-not (refused v c) (rw (ok_exactly v c) at by_code.1))

@@ -1,24 +1,19 @@
--- The code of the first row that applies, found row by row from what the tests of the code answered: by the rows passed.
-use mathlib.Core.Path.{◌≡◌, sym, ◌∙◌}
-use mathlib.Core.Bool.{Bool, true, false}
-use mathlib.Core.List.{List, ◌∷◌}
-use Rattle.model.specs.declared.Code.{Code}
-use Rattle.model.specs.Errors.{ErrorRow, ◌when◌, first_that_applies}
+-- The error table's first rows, test by test: by its definition.
+use mathlib.Core.Path.{◌≡◌, refl}
+use mathlib.Core.Bool.{◌||◌, cond}
+use Rattle.model.specs.declared.Call.{Call}
+use Rattle.model.specs.declared.Code.TheVariants.{Sys, Par, Id, Ctx}
+use Rattle.model.specs.Calls.{View}
+use Rattle.model.specs.Errors.{unknown, caller_cannot_call, called_while_locked, called_by_handler, called_while_disabled, number_outside}
+use Rattle.model.specs.Errors.{tmout_outside, attribute_outside, capacity_outside, task_priority_outside, message_outside, highest_outside}
+use Rattle.model.specs.Errors.{rows_to_step_4, rows_from_step_5, error_table, first_that_applies, refusal}
 
-pub data Finds (found : Code) : List ErrorRow → Type 0 where
-  -- The first row applies.
-  here : {rows : List ErrorRow} {answer applies : Bool} → answer ≡ applies → answer ≡ true → Finds found ((found when applies) ∷ rows)
-  -- It doesn't, and the code is found among the others.
-  past : {code : Code} {rows : List ErrorRow} {answer applies : Bool} → answer ≡ applies → answer ≡ false → Finds found rows → Finds found ((code when applies) ∷ rows)
-  -- The code is that of these rows.
-  of_rows : {rows : List ErrorRow} → found ≡ first_that_applies rows → Finds found rows
-
-pub first : {found : Code} {rows : List ErrorRow} → Finds found rows → found ≡ first_that_applies rows
-unfolding first_that_applies
-first (here same t) = rw (sym same ∙ t)
-first (past same f rest) = rw (sym same ∙ f) (first rest)
-first (of_rows e) = e
-
--- What is found among the rows that are left is found among all: those before don't apply.
-abbrev pub Passed : List ErrorRow → List ErrorRow → Type 0
-Passed rows rest = (code : Code) → Finds code rest → Finds code rows
+pub by_row : (v : View) (c : Call) → refusal v c
+    ≡ cond (unknown c) Par
+    (cond (caller_cannot_call v.caller c) Sys
+    (cond (called_while_locked c || called_by_handler c || called_while_disabled c) Ctx
+    (cond (number_outside c) Id
+    (cond (tmout_outside c || attribute_outside c || capacity_outside c || task_priority_outside c || message_outside c || highest_outside c) Par
+    (first_that_applies (rows_from_step_5 v c))))))
+unfolding rows_to_step_4 error_table first_that_applies refusal
+by_row v c = refl

@@ -1,10 +1,10 @@
 -- What the code is handed of the rows that a call has in view (crates/model/specs/Calls.antt, `View`): all that the error table and the decision ask of them.
-use Rattle.std.specs.Prelude.{◌≡◌, Bool, true, false, T, eqb, length}
+use Rattle.std.specs.Prelude.{◌≡◌, Bool, true, false, cond, T, eqb, length, ⊤, Result, Ok, Err}
 use mathlib.Core.List.{head_d}
 use Rattle.lists.specs.Lists.{empty}
 use Rattle.model.specs.Rows.{suspension, Model, TaskRow, QueueRow, MailboxRow}
 use Rattle.model.specs.Calls.{reads_suspension, task_named, row_if_valid, View, view_of}
-use Rattle.model.specs.declared.Code.TheVariants.{Ok, Sys, Par, Id, Ctx, Iluse, Obj, Noexs, Qovr, Rlwai, Tmout, Dlt}
+use Rattle.model.specs.declared.Code.TheVariants.{Ok as E_OK, Sys, Par, Id, Ctx, Iluse, Obj, Noexs, Qovr, Rlwai, Tmout, Dlt}
 use Rattle.model.specs.declared.Call.{Call}
 use Rattle.model.specs.declared.Code.{Code}
 use Rattle.errors.specs.declared.TaskSeen.{TaskSeen}
@@ -56,7 +56,7 @@ pub record SeenFor (m : Model) (c : Call) (y : Seen) : Type 0 where
 
 -- E_OK alone: the code of a call that no row of the table refuses (proofs/Laws.antt).
 abbrev pub is_ok : Code → Bool
-is_ok Ok = true
+is_ok E_OK = true
 is_ok Sys = false
 is_ok Par = false
 is_ok Id = false
@@ -68,3 +68,7 @@ is_ok Qovr = false
 is_ok Rlwai = false
 is_ok Tmout = false
 is_ok Dlt = false
+
+-- What a code of the table comes to: a refusal with this code, and none where it is E_OK, which no row has.
+abbrev pub refusal_of : Code → Result ⊤ Code
+refusal_of code = cond (is_ok code) (Ok tt) (Err code)

@@ -1,5 +1,6 @@
 // Document 01, "Error numbers and their order", as code: which row of the table refuses a call, from what is seen of the rows that the
 // call has in view. A test has the name that it has in crates/model/specs; the three rows that ask several tests have a function each.
+// The tests are joined by | and &, which ask both sides: each side is cheap, and so there are few branches.
 #![tactic(auto)]
 
 ghost use Rattle.std.specs.Prelude.{◌≡◌, true, ◌&&◌, ◌||◌};
@@ -9,27 +10,12 @@ ghost use Rattle.model.specs.Calls as calls;
 ghost use Rattle.model.specs.Calls.{View};
 ghost use Rattle.model.specs.Waits as waits;
 ghost use Rattle.model.specs.Errors as table;
-ghost use Rattle.errors.specs.Seen.{Shows, is_ok};
+ghost use Rattle.errors.specs.Seen.{Shows, refusal_of};
 
 use model::{
     CALL_LIMIT, CAPACITY_LIMIT, Call, Code, MAILBOX_LIMIT, MESSAGE_LIMIT, PRIORITY_LIMIT,
     QUEUE_LIMIT, TASK_LIMIT, TMOUT_LIMIT, Wait,
 };
-
-// The limits as words, like the fields that they are compared with.
-const CALLS: u32 = CALL_LIMIT as u32;
-
-const TASKS: u32 = TASK_LIMIT as u32;
-
-const QUEUES: u32 = QUEUE_LIMIT as u32;
-
-const MAILBOXES: u32 = MAILBOX_LIMIT as u32;
-
-const MESSAGES: u32 = MESSAGE_LIMIT as u32;
-
-const CAPACITY: u32 = CAPACITY_LIMIT as u32;
-
-const PRIORITIES: u32 = PRIORITY_LIMIT as u32;
 
 // ── What is seen of the rows in view ──
 
@@ -67,8 +53,6 @@ pub struct MailboxSeen {
 
 #[derive(Clone, Copy)]
 pub struct Seen {
-    // Whether the record is sound. All else is shown of a sound record alone.
-    pub sound: bool,
     pub counter: u32,
     pub caller: TaskSeen,
     pub task: TaskSeen,
@@ -82,37 +66,29 @@ pub struct Seen {
 pub fn able(wait: Wait) -> bool
     ensures { result ≡ waits.able wait }
 {
-    match wait {
-        Wait::NoWait => true,
-        Wait::Sending {
-            queue: _,
-            end: _,
-            word: _,
-        } => false,
-        Wait::Receiving { queue: _, end: _ } => false,
-        Wait::AtMailbox { mailbox: _, end: _ } => false,
-    }
+    matches!(wait, Wait::NoWait)
 }
 
 // ── Which calls ──
 
 // The calls that make a task or an object, and the calls with a tmout.
+#[tactic(auto, unfolding(lists::specs::Lists::one_of))]
 fn creates(call: Call) -> bool
     ensures { result ≡ calls.creates call }
 {
-    let n = call.number;
-    (n == 1) | (n == 2) | (n == 12)
+    matches!(call.number, 1 | 2 | 12)
 }
 
+#[tactic(auto, unfolding(lists::specs::Lists::one_of))]
 pub fn has_tmout(call: Call) -> bool
     ensures { result ≡ calls.has_tmout call }
 {
-    let n = call.number;
-    (n == 6) | (n == 10) | (n == 17)
+    matches!(call.number, 6 | 10 | 17)
 }
 
 // ── Step 0 ──
 
+#[tactic(auto, unfolding(model::specs::Errors::unknown))]
 fn unknown(call: Call) -> bool
     ensures { result ≡ table.unknown call }
 {
@@ -121,6 +97,7 @@ fn unknown(call: Call) -> bool
 
 // ── Step 1 ──
 
+#[tactic(auto, unfolding(model::specs::Errors::caller_cannot_call))]
 fn caller_cannot_call(call: Call, seen: Seen) -> bool
     ensures { (v : View) → Shows v call seen → result ≡ table.caller_cannot_call v.caller call }
 {
@@ -132,20 +109,22 @@ fn caller_cannot_call(call: Call, seen: Seen) -> bool
 
 // ── Step 2 ──
 
+#[tactic(auto, unfolding(model::specs::Errors::called_while_locked))]
 fn called_while_locked(call: Call) -> bool
     ensures { result ≡ table.called_while_locked call }
 {
-    call.locked & names::within(1, CALLS, call.number as u32)
+    call.locked & (1..=CALL_LIMIT).contains(&call.number)
 }
 
 // The calls that only a task can make.
+#[tactic(auto, unfolding(lists::specs::Lists::one_of))]
 fn task_only(call: Call) -> bool
     ensures { result ≡ calls.task_only call }
 {
-    let n = call.number;
-    (n == 3) | (n == 4) | (n == 6) | (n == 8) | (n == 10) | (n == 13) | (n == 15) | (n == 17)
+    matches!(call.number, 3 | 4 | 6 | 8 | 10 | 13 | 15 | 17)
 }
 
+#[tactic(auto, unfolding(model::specs::Errors::called_by_handler))]
 fn called_by_handler(call: Call) -> bool
     ensures { result ≡ table.called_by_handler call }
 {
@@ -153,17 +132,18 @@ fn called_by_handler(call: Call) -> bool
 }
 
 // Call 20 naming the task that calls, never for caller 0.
+#[tactic(auto, unfolding(model::specs::Errors::suspends_itself))]
 fn suspends_itself(call: Call) -> bool
     ensures { result ≡ table.suspends_itself call }
 {
     (call.number == 20) & (call.object == call.caller) & (call.caller != 0)
 }
 
+#[tactic(auto, unfolding(model::specs::Errors::called_while_disabled, lists::specs::Lists::one_of))]
 fn called_while_disabled(call: Call) -> bool
     ensures { result ≡ table.called_while_disabled call }
 {
-    let n = call.number;
-    let may_wait = (n == 4) | (n == 6) | (n == 8) | (n == 10) | (n == 15) | (n == 17);
+    let may_wait = matches!(call.number, 4 | 6 | 8 | 10 | 15 | 17);
     call.disabled & (may_wait | suspends_itself(call))
 }
 
@@ -176,17 +156,19 @@ fn wrong_context(call: Call) -> bool
 // ── Step 3 ──
 
 // Number 0 is refused as well.
+#[tactic(auto, unfolding(model::specs::Errors::number_outside))]
 fn number_outside(call: Call) -> bool
     ensures { result ≡ table.number_outside call }
 {
-    let n = call.object as u32;
-    names::names_task(call) & !names::within(1, TASKS, n)
-        | names::names_queue(call) & !names::within(1, QUEUES, n)
-        | names::names_mailbox(call) & !names::within(1, MAILBOXES, n)
+    let n = call.object;
+    names::names_task(call) & !(1..=TASK_LIMIT).contains(&n)
+        | names::names_queue(call) & !(1..=QUEUE_LIMIT).contains(&n)
+        | names::names_mailbox(call) & !(1..=MAILBOX_LIMIT).contains(&n)
 }
 
 // ── Step 4 ──
 
+#[tactic(auto, unfolding(model::specs::Errors::tmout_outside))]
 fn tmout_outside(call: Call) -> bool
     ensures { result ≡ table.tmout_outside call }
 {
@@ -194,44 +176,51 @@ fn tmout_outside(call: Call) -> bool
     has_tmout(call) & ((tmout < -1) | (TMOUT_LIMIT < tmout))
 }
 
+#[tactic(auto, unfolding(model::specs::Errors::attribute_outside))]
 fn attribute_outside(call: Call) -> bool
     ensures { result ≡ table.attribute_outside call }
 {
     let attribute = call.attribute;
-    (call.number == 2) & !names::within(0, 1, attribute)
-        | (call.number == 12) & !names::within(0, 3, attribute)
+    (call.number == 2) & !(0..=1).contains(&attribute)
+        | (call.number == 12) & !(0..=3).contains(&attribute)
 }
 
+#[tactic(auto, unfolding(model::specs::Errors::capacity_outside))]
 fn capacity_outside(call: Call) -> bool
     ensures { result ≡ table.capacity_outside call }
 {
-    (call.number == 2) & (CAPACITY < call.value)
+    (call.number == 2) & (u32::from(CAPACITY_LIMIT) < call.value)
 }
 
+#[tactic(auto, unfolding(model::specs::Errors::task_priority_outside))]
 fn task_priority_outside(call: Call) -> bool
     ensures { result ≡ table.task_priority_outside call }
 {
-    (call.number == 1) & !names::within(1, PRIORITIES, call.value)
+    (call.number == 1) & !(1..=u32::from(PRIORITY_LIMIT)).contains(&call.value)
 }
 
+#[tactic(auto, unfolding(model::specs::Errors::message_outside))]
 fn message_outside(call: Call) -> bool
     ensures { result ≡ table.message_outside call }
 {
-    names::names_message(call) & !names::within(1, MESSAGES, call.value)
+    names::names_message(call) & !(1..=u32::from(MESSAGE_LIMIT)).contains(&call.value)
 }
 
+// Of a call's attribute. Crate parts has the same of a mailbox's, a byte: of the two crates neither may use the other.
+#[tactic(auto, unfolding(lists::specs::Lists::one_of))]
 pub fn messages_by_priority(attribute: u32) -> bool
     ensures { result ≡ rows.messages_by_priority attribute }
 {
-    (attribute == 2) | (attribute == 3)
+    matches!(attribute, 2 | 3)
 }
 
+#[tactic(auto, unfolding(model::specs::Errors::highest_outside))]
 fn highest_outside(call: Call) -> bool
     ensures { result ≡ table.highest_outside call }
 {
     (call.number == 12)
         & messages_by_priority(call.attribute)
-        & !names::within(1, PRIORITIES, call.value)
+        & !(1..=u32::from(PRIORITY_LIMIT)).contains(&call.value)
 }
 
 fn field_outside(call: Call) -> bool
@@ -248,6 +237,7 @@ fn field_outside(call: Call) -> bool
 
 // ── Step 5 ──
 
+#[tactic(auto, unfolding(model::specs::Errors::exists))]
 fn exists(call: Call, seen: Seen) -> bool
     ensures { (v : View) → Shows v call seen → result ≡ table.exists v call }
 {
@@ -256,6 +246,7 @@ fn exists(call: Call, seen: Seen) -> bool
         | names::names_mailbox(call) & seen.mailbox.defined
 }
 
+#[tactic(auto, unfolding(model::specs::Errors::missing))]
 fn missing(call: Call, seen: Seen) -> bool
     ensures { (v : View) → Shows v call seen → result ≡ table.missing v call }
 {
@@ -264,15 +255,17 @@ fn missing(call: Call, seen: Seen) -> bool
 
 // ── Steps 6a to 6d ──
 
+#[tactic(auto, unfolding(model::specs::Errors::message_priority_outside))]
 fn message_priority_outside(call: Call, seen: Seen) -> bool
     ensures { (v : View) → Shows v call seen → result ≡ table.message_priority_outside v call }
 {
-    let by_priority = messages_by_priority(seen.mailbox.attribute as u32);
-    let highest = seen.mailbox.highest as u32;
-    names::names_message(call) & by_priority & !names::within(1, highest, call.attribute)
+    let by_priority = messages_by_priority(u32::from(seen.mailbox.attribute));
+    let highest = u32::from(seen.mailbox.highest);
+    names::names_message(call) & by_priority & !(1..=highest).contains(&call.attribute)
 }
 
 // 1, 2, 12: already exists. 14: message already queued. 19: task not waiting. 21: task not suspended. 23: task waiting.
+#[tactic(auto, using(crate::proofs::Laws::seen_by_resume), unfolding(model::specs::Errors::wrong_state))]
 fn wrong_state(call: Call, seen: Seen) -> bool
     ensures { (v : View) → Shows v call seen → result ≡ table.wrong_state v call }
 {
@@ -287,6 +280,7 @@ fn wrong_state(call: Call, seen: Seen) -> bool
         | (n == 23) & !is_able
 }
 
+#[tactic(auto, using(crate::proofs::Laws::seen_by_suspend), unfolding(model::specs::Errors::suspended_already))]
 fn suspended_already(call: Call, seen: Seen) -> bool
     ensures { (v : View) → Shows v call seen → result ≡ table.suspended_already v call }
 {
@@ -294,6 +288,7 @@ fn suspended_already(call: Call, seen: Seen) -> bool
 }
 
 // A waiting receiver is served, whatever the capacity.
+#[tactic(auto, unfolding(model::specs::Errors::nothing_to_drop))]
 fn nothing_to_drop(call: Call, seen: Seen) -> bool
     ensures { (v : View) → Shows v call seen → result ≡ table.nothing_to_drop v call }
 {
@@ -302,11 +297,11 @@ fn nothing_to_drop(call: Call, seen: Seen) -> bool
 
 // ── Step 7 ──
 
+#[tactic(auto, unfolding(model::specs::Errors::polls, lists::specs::Lists::one_of))]
 fn polls(call: Call) -> bool
     ensures { result ≡ table.polls call }
 {
-    let n = call.number;
-    let polling = (n == 5) | (n == 9) | (n == 16);
+    let polling = matches!(call.number, 5 | 9 | 16);
     polling | has_tmout(call) & (call.tmout == 0)
 }
 
@@ -314,12 +309,12 @@ fn polls(call: Call) -> bool
 fn would_wait(call: Call, seen: Seen) -> bool
     ensures { (v : View) → Shows v call seen → result ≡ table.would_wait v call }
 {
-    let n = call.number as u32;
+    let n = call.number;
     let count = seen.queue.count;
     let room = count < seen.queue.capacity;
-    names::within(4, 6, n) & (seen.queue.receiver == 0) & !room
-        | names::within(8, 10, n) & (count == 0) & (seen.queue.sender == 0)
-        | names::within(15, 17, n) & (seen.mailbox.message == 0)
+    (4..=6).contains(&n) & (seen.queue.receiver == 0) & !room
+        | (8..=10).contains(&n) & (count == 0) & (seen.queue.sender == 0)
+        | (15..=17).contains(&n) & (seen.mailbox.message == 0)
 }
 
 fn poll_would_wait(call: Call, seen: Seen) -> bool
@@ -331,68 +326,50 @@ fn poll_would_wait(call: Call, seen: Seen) -> bool
 // ── The table ──
 
 // Steps 5 to 7, for a call that passes those before.
-fn refusal_from_step_5(call: Call, seen: Seen) -> Code
-    ensures { (v : View) → Shows v call seen → result ≡ table.first_that_applies (table.rows_from_step_5 v call) }
+#[tactic(auto, unfolding(model::specs::Errors::rows_from_step_5, model::specs::Errors::first_that_applies))]
+fn refusal_from_step_5(call: Call, seen: Seen) -> Result<(), Code>
+    ensures { (v : View) → Shows v call seen → result ≡ refusal_of (table.first_that_applies (table.rows_from_step_5 v call)) }
 {
     if missing(call, seen) {
-        return Code::Noexs;
+        return Err(Code::Noexs);
     }
     if message_priority_outside(call, seen) {
-        return Code::Par;
+        return Err(Code::Par);
     }
     if wrong_state(call, seen) {
-        return Code::Obj;
+        return Err(Code::Obj);
     }
     if suspended_already(call, seen) {
-        return Code::Qovr;
+        return Err(Code::Qovr);
     }
     if nothing_to_drop(call, seen) {
-        return Code::Iluse;
+        return Err(Code::Iluse);
     }
     if poll_would_wait(call, seen) {
-        return Code::Tmout;
+        return Err(Code::Tmout);
     }
-    Code::Ok
+    Ok(())
 }
 
-// The code of the first row that applies, E_OK where none does. Step 1's test of the state is made before (crate see).
-pub fn refusal(call: Call, seen: Seen) -> Code
-    ensures { (v : View) → Shows v call seen → result ≡ table.refusal v call }
+// The code of the first row that applies, if one does. Step 1's test of the state is made before (crate see).
+#[tactic(auto, using(crate::proofs::Table::by_row))]
+pub fn refusal(call: Call, seen: Seen) -> Result<(), Code>
+    ensures { (v : View) → Shows v call seen → result ≡ refusal_of (table.refusal v call) }
 {
     if unknown(call) {
-        return Code::Par;
+        return Err(Code::Par);
     }
     if caller_cannot_call(call, seen) {
-        return Code::Sys;
+        return Err(Code::Sys);
     }
     if wrong_context(call) {
-        return Code::Ctx;
+        return Err(Code::Ctx);
     }
     if number_outside(call) {
-        return Code::Id;
+        return Err(Code::Id);
     }
     if field_outside(call) {
-        return Code::Par;
+        return Err(Code::Par);
     }
     refusal_from_step_5(call, seen)
-}
-
-// True exactly for E_OK.
-pub fn accepts(code: Code) -> bool
-    ensures { result ≡ is_ok code }
-{
-    match code {
-        Code::Ok => true,
-        Code::Sys => false,
-        Code::Par => false,
-        Code::Id => false,
-        Code::Ctx => false,
-        Code::Iluse => false,
-        Code::Obj => false,
-        Code::Noexs => false,
-        Code::Qovr => false,
-        Code::Rlwai => false,
-        Code::Tmout => false,
-        Code::Dlt => false,
-    }
 }

@@ -41,32 +41,33 @@ pub struct HostAnswer {
 }
 
 // A number as a byte; 255 for all that are larger. No call, task or object has that number.
+#[tactic(auto, unfolding(crate::specs::Calls::byte))]
 fn byte(number: u32) -> u8
     ensures { result ≡ byte number }
 {
-    if number < 255 {
-        return number as u8;
-    }
-    255
+    u8::try_from(number).unwrap_or(u8::MAX)
 }
 
-pub fn call_of(call: HostCall) -> Call
-    ensures { result ≡ call_of call }
-{
-    let locked = call.locked;
-    let disabled = call.disabled;
-    Call {
-        number: byte(call.number),
-        caller: byte(call.caller),
-        locked: locked != 0,
-        disabled: disabled != 0,
-        object: byte(call.object),
-        value: call.value,
-        tmout: call.tmout,
-        attribute: call.attribute,
+// What a host's numbers mean.
+impl From<HostCall> for Call {
+    ghost from_gives = { λ call result. result ≡ call_of call };
+
+    #[tactic(auto, unfolding(crate::specs::Calls::call_of))]
+    fn from(call: HostCall) -> Call {
+        Call {
+            number: byte(call.number),
+            caller: byte(call.caller),
+            locked: call.locked != 0,
+            disabled: call.disabled != 0,
+            object: byte(call.object),
+            value: call.value,
+            tmout: call.tmout,
+            attribute: call.attribute,
+        }
     }
 }
 
+// No `impl From<Code> for i32`: only crate model, which has `Code`, could hold it.
 pub fn number_of(code: Code) -> i32
     ensures { result ≡ number code }
 {
@@ -86,26 +87,22 @@ pub fn number_of(code: Code) -> i32
     }
 }
 
-pub fn answer_of(answer: Answer) -> HostAnswer
-    ensures { result ≡ answer_of answer }
-{
-    let outcome = answer.outcome;
-    match outcome {
-        Outcome::Finished(code) => HostAnswer {
-            kind: 0,
-            code: number_of(code),
-            place: 0,
-            a: answer.a,
-            b: answer.b,
-            c: answer.c,
-        },
-        Outcome::Waits(place) => HostAnswer {
-            kind: 1,
-            code: 1,
+impl From<Answer> for HostAnswer {
+    ghost from_gives = { λ answer result. result ≡ answer_of answer };
+
+    #[tactic(auto, unfolding(crate::specs::Calls::answer_of))]
+    fn from(answer: Answer) -> HostAnswer {
+        let (kind, code, place) = match answer.outcome {
+            Outcome::Finished(code) => (0, number_of(code), 0),
+            Outcome::Waits(place) => (1, 1, place),
+        };
+        HostAnswer {
+            kind,
+            code,
             place,
             a: answer.a,
             b: answer.b,
             c: answer.c,
-        },
+        }
     }
 }

@@ -1,7 +1,6 @@
 -- Document 02, items 3 and 5, through the functions that hosts call: a recording in any blocks.
 use Rattle.model.specs.Codes.{number}
-use Rattle.replays.specs.declared.Replay.{Replay}
-use Rattle.replays.specs.Replays.{TakesBlockAs}
+use Rattle.replays.specs.Replays.{TakesBlock}
 use Rattle.replays.specs.Files.{EveryFile}
 use Rattle.host_replay.specs.Replay.{replay_of, BlockTaken}
 use Rattle.demands.specs.Runs.{ListsRun}
@@ -16,4 +15,4 @@ abbrev pub BlocksRunForHosts : Type 1
 BlocksRunForHosts = ListsRun BlockTaken
 
 abbrev pub BlocksRun : Type 1
-BlocksRun = ListsRun (TakesBlockAs (λ (r : Replay). r) (λ code. code))
+BlocksRun = ListsRun TakesBlock

@@ -2,7 +2,7 @@
 use mathlib.Core.Path.{◌≡◌, refl, sym, ap, ◌∙◌, subst, fun_ext}
 use mathlib.Core.Bool.{Bool, cond}
 use mathlib.Core.List.{List, map}
-use mathlib.Core.Logic.{◌≢◌, ◌⊎◌, inl, inr}
+use mathlib.Core.Logic.{◌⊎◌, inl, inr}
 use Prim.Native.Nat.{ℕ}
 use native.Mathlib.Decide.{ℕ_discrete}
 use lib.Dec.{T}
@@ -11,7 +11,9 @@ use Rattle.model.specs.Rows.{Key, task, suspension, queue, mailbox, message, val
 use Rattle.model.specs.Engine.{Lawful}
 use Rattle.model.specs.WellFormed.{WellFormed}
 use Rattle.lists.proofs.Reading.{all_same}
-use Rattle.decide.specs.Touches.{every_task, SameTask}
+use Rattle.decide.specs.Touches.{Covers, SameTask}
+use Rattle.decide.specs.declared.Touched.{Touched}
+use Rattle.decide.specs.declared.Touched.TheVariants.{NoTask, OneTask, EveryTask}
 use Rattle.parts.specs.Tasks.{task_row}
 use Rattle.parts.specs.declared.Task.{Task}
 use Rattle.host_tasks.specs.Tasks.{wait_of, read_task}
@@ -75,9 +77,18 @@ same_but_key x y p q e =
 
 -- ── What is written back ──
 
+-- Whether a task is among those that were touched.
+covered : (r : Touched) (t : ℕ) → Covers r t ⊎ (Covers r t → ⊥)
+covered NoTask t = inr (λ e. e)
+covered (OneTask u) t = elim (ℕ_discrete t u) [
+  | yes e ↦ inl e
+  | no n ↦ inr n
+]
+covered EveryTask t = inl tt
+
 -- The record before holds s₀, and the touched tasks of s were written: whatever wasn't touched is in s as it was in s₀.
-module _ {before r : HostRecord} {s : State} {touched : ℕ} (w : Written before s touched r)
-    (untouched : touched ≢ every_task → (t : ℕ) → t ≢ touched → SameTask (abs (state_of before)) (abs s) t) where
+module _ {before r : HostRecord} {s : State} {touched : Touched} (w : Written before s touched r)
+    (untouched : (t : ℕ) → (Covers touched t → ⊥) → SameTask (abs (state_of before)) (abs s) t) where
   abbrev tasks : List Task
   tasks = map read_task r.tasks
 
@@ -85,33 +96,30 @@ module _ {before r : HostRecord} {s : State} {touched : ℕ} (w : Written before
   unfolding state_of
   state_is = λ i. record { counter = w.counter i; tasks = tasks; queues = w.queues i; waiting = w.waiting i; messages = w.messages i; mailboxes = w.mailboxes i }
 
-  touched_is : (t : ℕ) → T (valid (task t)) → (touched ≡ every_task) ⊎ (t ≡ touched) → task_at (with_tasks tasks s) t ≡ task_at s t
+  touched_is : (t : ℕ) → T (valid (task t)) → Covers touched t → task_at (with_tasks tasks s) t ≡ task_at s t
   unfolding read_task wait_of
   touched_is t v h = get_or-map read_task r.tasks t zero_numbers ∙ w.tasks.written t v h
 
-  untouched_is : (t : ℕ) → touched ≢ every_task → t ≢ touched → task_at (with_tasks tasks s) t ≡ task_at (state_of before) t
+  untouched_is : (t : ℕ) → (Covers touched t → ⊥) → task_at (with_tasks tasks s) t ≡ task_at (state_of before) t
   unfolding read_task wait_of
-  untouched_is t n m = get_or-map read_task r.tasks t zero_numbers ∙ (ap read_task (w.tasks.kept t n m) ∙ sym (task_read before t))
+  untouched_is t n = get_or-map read_task r.tasks t zero_numbers ∙ (ap read_task (w.tasks.kept t n) ∙ sym (task_read before t))
 
   -- Each task has the row, and the suspension, that it has in s.
   module _ (t : ℕ) (v : T (valid (task t))) where
-    row_kept : touched ≢ every_task → t ≢ touched → cells_of (with_tasks tasks s) (task t) ≡ cells_of s (task t)
-    row_kept n m =
-        let same : cells_of s (task t) ≡ cells_of (state_of before) (task t) = sym (row_is s (task t) v) ∙ ((untouched n t m).row ∙ row_is (state_of before) (task t) v) in
-        ap (λ (x : Task). task_row x (get_or s.waiting.key t 0)) (untouched_is t n m) ∙ same_but_key (task_at s t) (task_at (state_of before) t) (get_or s.waiting.key t 0) (get_or (state_of before).waiting.key t 0) same
+    row_kept : (Covers touched t → ⊥) → cells_of (with_tasks tasks s) (task t) ≡ cells_of s (task t)
+    row_kept n =
+        let same : cells_of s (task t) ≡ cells_of (state_of before) (task t) = sym (row_is s (task t) v) ∙ ((untouched t n).row ∙ row_is (state_of before) (task t) v) in
+        ap (λ (x : Task). task_row x (get_or s.waiting.key t 0)) (untouched_is t n) ∙ same_but_key (task_at s t) (task_at (state_of before) t) (get_or s.waiting.key t 0) (get_or (state_of before).waiting.key t 0) same
 
-    suspension_kept : touched ≢ every_task → t ≢ touched → cells_of (with_tasks tasks s) (suspension t) ≡ cells_of s (suspension t)
-    suspension_kept n m =
-        ap (λ (x : Task). x.suspended) (untouched_is t n m)
-        ∙ (sym (row_is (state_of before) (suspension t) v) ∙ (sym (untouched n t m).suspended ∙ row_is s (suspension t) v))
+    suspension_kept : (Covers touched t → ⊥) → cells_of (with_tasks tasks s) (suspension t) ≡ cells_of s (suspension t)
+    suspension_kept n =
+        ap (λ (x : Task). x.suspended) (untouched_is t n)
+        ∙ (sym (row_is (state_of before) (suspension t) v) ∙ (sym (untouched t n).suspended ∙ row_is s (suspension t) v))
 
-    by_touch : {P : Type 0} → ((touched ≡ every_task) ⊎ (t ≡ touched) → P) → (touched ≢ every_task → t ≢ touched → P) → P
-    by_touch yes_case no_case = elim (ℕ_discrete touched every_task) [
-      | yes e ↦ yes_case (inl e)
-      | no n ↦ elim (ℕ_discrete t touched) [
-        | yes e ↦ yes_case (inr e)
-        | no m ↦ no_case n m
-      ]
+    by_touch : {P : Type 0} → (Covers touched t → P) → ((Covers touched t → ⊥) → P) → P
+    by_touch yes_case no_case = elim (covered touched t) [
+      | inl e ↦ yes_case e
+      | inr n ↦ no_case n
     ]
 
     row_same : cells_of (with_tasks tasks s) (task t) ≡ cells_of s (task t)

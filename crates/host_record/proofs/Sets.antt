@@ -4,6 +4,7 @@ use mathlib.Core.Bool.{Bool, cond, not, ◌&&◌, true, false}
 use Prim.Native.Nat.{ℕ, zero, suc, ◌+◌, ◌-◌, ◌*◌, ◌^◌, ◌≤◌, ◌<◌}
 use native.Mathlib.Nat.{pow-suc, lt_of_lt_of_le}
 use native.Mathlib.Omega.{arith}
+use mir.Val.{bool_byte}
 use lib.Dec.{T, eqb}
 use lib.ListN.{get_or}
 use lib.Pow.{pow_mono}
@@ -31,6 +32,10 @@ from_on has t = set_of has t (33 - t)
 bit_small : (b : Bool) → cond b 1 0 ≤ 1
 bit_small true = omega arith
 bit_small false = omega arith
+
+bit_is : (b : Bool) → bool_byte b ≡ cond b 1 0
+bit_is true = refl
+bit_is false = refl
 
 module _ (has : ℕ → Bool) where
   pub none_yet : from_on has 33 ≡ 0
@@ -89,16 +94,15 @@ pub record SoFar (numbers : List HostTask) (t waiting runnable : ℕ) : Type 0 w
 pub begins : (numbers : List HostTask) → SoFar numbers 33 0 0
 begins numbers = record { low = omega arith; high = omega arith; waiting_is = sym (none_yet _); runnable_is = sym (none_yet _) }
 
-set_grows : (has : ℕ → Bool) {t rest more : ℕ} {b : Bool} → 1 < t → t ≤ 33 → rest ≡ from_on has t → b ≡ has (t - 1) → more ≡ cond b 1 0 + 2 * rest → more ≡ from_on has (t - 1)
-set_grows has {t} some fits rest_is b_is more_is =
+set_grows : (has : ℕ → Bool) {t rest bit : ℕ} {b : Bool} → 1 < t → t ≤ 33 → rest ≡ from_on has t → b ≡ has (t - 1) → bit ≡ bool_byte b → bit + 2 * rest ≡ from_on has (t - 1)
+set_grows has {t} {rest} {b = b} some fits rest_is b_is is_bit =
     let next : suc (t - 1) ≡ t = omega arith in
-    more_is ∙ (ap₂ (λ (b : Bool) (rest : ℕ). cond b 1 0 + 2 * rest) b_is (rest_is ∙ ap (from_on has) (sym next)) ∙ one_more has (omega arith))
+    ap (λ (bit : ℕ). bit + 2 * rest) (is_bit ∙ bit_is b) ∙ (ap₂ (λ (b : Bool) (rest : ℕ). cond b 1 0 + 2 * rest) b_is (rest_is ∙ ap (from_on has) (sym next)) ∙ one_more has (omega arith))
 
-pub one_task_more : {numbers : List HostTask} {t waiting runnable waiting' runnable' number : ℕ} (x : Task)
+pub one_task_more : {numbers : List HostTask} {t waiting runnable waits_bit runs_bit number : ℕ} (x : Task)
     → SoFar numbers t waiting runnable → 1 < t → x ≡ task_of numbers (t - 1) → number ≡ wait_number x.wait
-    → waiting' ≡ cond (not (eqb number 0)) 1 0 + 2 * waiting
-    → runnable' ≡ cond ((x.defined && not (not (eqb number 0))) && not x.suspended) 1 0 + 2 * runnable
-    → SoFar numbers (t - 1) waiting' runnable'
+    → waits_bit ≡ bool_byte (not (eqb number 0)) → runs_bit ≡ bool_byte ((x.defined && not (not (eqb number 0))) && not x.suspended)
+    → SoFar numbers (t - 1) (waits_bit + 2 * waiting) (runs_bit + 2 * runnable)
 one_task_more x so_far some x_is number_is waiting_is runnable_is =
     let waits_is = ap (λ (n : ℕ). not (eqb n 0)) number_is ∙ (waits_by_number x.wait ∙ ap waits x_is) in
     let runs_is = ap (λ (n : ℕ). (x.defined && not (not (eqb n 0))) && not x.suspended) number_is ∙ (can_run_by_number x.defined x.suspended x.wait ∙ ap can_run x_is) in
@@ -108,6 +112,9 @@ one_task_more x so_far some x_is number_is waiting_is runnable_is =
       waiting_is = set_grows _ some so_far.high so_far.waiting_is waits_is waiting_is;
       runnable_is = set_grows _ some so_far.high so_far.runnable_is runs_is runnable_is;
     }
+
+pub bit_at_most_1 : (b : Bool) {bit : ℕ} → bit ≡ bool_byte b → bit ≤ 1
+bit_at_most_1 b is_bit = rw (is_bit, bit_is b) (bit_small b)
 
 pub rooms : {numbers : List HostTask} {t waiting runnable : ℕ} → SoFar numbers t waiting runnable → 1 < t → (waiting < 2147483648) × (runnable < 2147483648)
 rooms so_far more = (rw so_far.waiting_is (has_room _ more), rw so_far.runnable_is (has_room _ more))

@@ -1,14 +1,13 @@
 -- The parts of a call on a host's record make up a step of it, as of the state that it holds: by whether the decision changes anything.
 use mathlib.Core.Path.{◌≡◌, refl, sym, ◌∙◌, subst}
 use mathlib.Core.Bool.{not}
-use mathlib.Core.Logic.{◌≢◌}
 use Prim.Native.Nat.{ℕ}
 use lib.Dec.{T}
 use Rattle.model.specs.Rows.{Model}
 use Rattle.model.specs.WellFormed.{WellFormed}
 use Rattle.model.specs.declared.Code.{Code}
 use Rattle.decide.specs.Decisions.{after}
-use Rattle.decide.specs.Touches.{every_task, SameTask, changed_by}
+use Rattle.decide.specs.Touches.{Covers, SameTask, changed_by}
 use Rattle.decide.specs.declared.Decision.{Decision}
 use Rattle.decide.specs.declared.Decision.TheVariants.{Refuse}
 use Rattle.host_calls.specs.Calls.{call_of, answer_of}
@@ -18,36 +17,32 @@ use Rattle.record.specs.declared.State.{State}
 use Rattle.record.specs.declared.Step.{Step}
 use Rattle.record.specs.Meaning.{abs}
 use Rattle.record.specs.Step.{Stepped}
-use Rattle.kernel.specs.Steps.{Judged, Appliable, Applied}
+use Rattle.kernel.specs.Steps.{Judged, Applied}
 use Rattle.kernel.proofs.Outcomes.{stepped}
 use Rattle.kernel.proofs.Arms.{nothing_done}
 use Rattle.host_record.specs.declared.HostRecord.{HostRecord}
 use Rattle.host_record.specs.Record.{state_of}
-use Rattle.kernel.specs.declared.Judgement.{Judgement}
 use Rattle.host_record.specs.Step.{HostStepped, CallJudged, Said, Stored}
 use Rattle.host_record.proofs.Record.{written_means, written_readable}
 
-module _ (lent : HostRecord) {s : State} (s_is : s ≡ state_of lent) (c : HostCall) {j : Judgement} (h : CallJudged s c j) where
+module _ (lent : HostRecord) {s : State} (s_is : s ≡ state_of lent) (c : HostCall) {d : Decision} (h : CallJudged s c d) where
   -- What was judged of the state is so of the state that the record holds.
-  judged : Judged (state_of lent) (call_of c) j.decision
-  judged = subst (λ (u : State). Judged u (call_of c) j.decision) s_is h.judged
+  judged : Judged (state_of lent) (call_of c) d
+  judged = subst (λ (u : State). Judged u (call_of c) d) s_is h
 
-  no_refusal : T (changed_by j.decision) → {code : Code} → j.decision ≡ Refuse code → ⊥
+  no_refusal : T (changed_by d) → {code : Code} → d ≡ Refuse code → ⊥
   no_refusal t e = subst (λ (x : Decision). T (changed_by x)) e t
 
   -- ── Nothing changed ──
 
-  module _ (n : T (not j.changes)) where
-    still : T (not (changed_by j.decision))
-    still = subst (λ b. T (not b)) h.changes_is n
-
+  module _ (still : T (not (changed_by d))) where
     -- The step of the state that hands it back.
-    of_state : Stepped (state_of lent) (call_of c) (record { state = state_of lent; answer = (after (abs (state_of lent)) j.decision).answer })
-    of_state = stepped (nothing_done j.decision still refl) judged
+    of_state : Stepped (state_of lent) (call_of c) (record { state = state_of lent; answer = (after (abs (state_of lent)) d).answer })
+    of_state = stepped (nothing_done d still refl) judged
 
-    pub stays : {given : HostAnswer} → Said j.decision given → HostStepped lent c lent given
+    pub stays : {given : HostAnswer} → Said d given → HostStepped lent c lent given
     stays e = record {
-      answer = (after (abs (state_of lent)) j.decision).answer;
+      answer = (after (abs (state_of lent)) d).answer;
       stepped = record {
         unknown = λ l. record { state_is = refl; finished_with = (of_state.unknown l).finished_with };
         unsound = λ l f. record { state_is = refl; finished_with = (of_state.unsound l f).finished_with };
@@ -60,18 +55,12 @@ module _ (lent : HostRecord) {s : State} (s_is : s ≡ state_of lent) (c : HostC
 
   -- ── Something changed ──
 
-  pub appliable : Appliable s j.decision
-  appliable = h.judged.appliable
+  module _ (moves : T (changed_by d)) {x : Step} (applied : Applied s d x) {r : HostRecord} (w : Stored lent x d r) where
+    a : Applied (state_of lent) d x
+    a = subst (λ (u : State). Applied u d x) s_is applied
 
-  module _ (t : T j.changes) {x : Step} (applied : Applied s j.decision x) {r : HostRecord} (w : Stored lent x j.decision r) where
-    moves : T (changed_by j.decision)
-    moves = subst T h.changes_is t
-
-    a : Applied (state_of lent) j.decision x
-    a = subst (λ (u : State). Applied u j.decision x) s_is applied
-
-    untouched : w.touched ≢ every_task → (t : ℕ) → t ≢ w.touched → SameTask (abs (state_of lent)) (abs x.state) t
-    untouched n t m = subst (λ (u : Model). SameTask (abs (state_of lent)) u t) (sym a.meaning_is) (w.touches n (abs (state_of lent)) judged.appliable.ready t m)
+    untouched : (t : ℕ) → (Covers w.touched t → ⊥) → SameTask (abs (state_of lent)) (abs x.state) t
+    untouched t n = subst (λ (u : Model). SameTask (abs (state_of lent)) u t) (sym a.meaning_is) (w.touches (abs (state_of lent)) judged.appliable.ready t n)
 
     pub moved : {given : HostAnswer} → given ≡ answer_of x.answer → HostStepped lent c r given
     moved e = record {

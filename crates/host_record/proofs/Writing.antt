@@ -1,7 +1,6 @@
 -- The numbers of all tasks, written one after the other; and of one alone. By what an array holds where it was changed, and elsewhere.
 use mathlib.Core.Path.{◌≡◌, refl, sym, ap, ◌∙◌, subst}
 use mathlib.Core.List.{List}
-use mathlib.Core.Logic.{◌≢◌, ⊎_elim}
 use Prim.Native.Nat.{ℕ, ◌+◌, ◌<◌, ◌≤◌}
 use native.Mathlib.Omega.{arith}
 use native.Mathlib.Decide.{ℕ_discrete}
@@ -9,7 +8,7 @@ use lib.ListN.{length, get_or, set, length-set}
 use lib.Seq.{get_or-set_same, get_or-set_other}
 use Rattle.model.specs.Sizes.{task_limit}
 use Rattle.model.proofs.Tests.{from_within}
-use Rattle.decide.specs.Touches.{every_task}
+use Rattle.decide.specs.declared.Touched.TheVariants.{NoTask, OneTask, EveryTask}
 use Rattle.parts.specs.declared.Task.{Task}
 use Rattle.host_tasks.specs.Tasks.{read_task, write_task}
 use Rattle.host_tasks.specs.declared.HostTask.{HostTask}
@@ -44,25 +43,28 @@ one_more {numbers = numbers} {tasks} {t} {y} s small e = record {
   ];
 }
 
-pub all_written : {before numbers : List HostTask} {tasks : List Task} {t : ℕ} → SoFar before tasks numbers t → 33 ≤ t → TasksWritten before tasks every_task numbers
+pub all_written : {before numbers : List HostTask} {tasks : List Task} {t : ℕ} → SoFar before tasks numbers t → 33 ≤ t → TasksWritten before tasks EveryTask numbers
 all_written {t = t} s all = record {
   size = s.size;
   written = λ i v h. let r = from_within 1 task_limit i v in s.written i r.0 (omega arith);
-  kept = λ i n m. absurd (n refl);
+  kept = λ i n. absurd (n tt);
 }
 
 -- One task is written, or none.
-module _ {numbers : List HostTask} {tasks : List Task} (touched : ℕ) (size : length numbers ≡ 33) (one : touched ≢ every_task) where
-  pub one_written : {y : HostTask} → touched < 33 → y ≡ write_task (get_or tasks touched zero_task) → TasksWritten numbers tasks touched (set numbers touched y)
-  one_written {y} small e = record {
-    size = length-set numbers touched y ∙ size;
-    written = λ t v h. ⊎_elim (λ every. absurd (one every)) (λ same. rw same (here_written numbers tasks touched size small e)) h;
-    kept = λ t n m. get_or-set_other numbers touched t y zero_numbers m;
+module _ {numbers : List HostTask} {tasks : List Task} (size : length numbers ≡ 33) where
+  pub one_written : (one : ℕ) {y : HostTask} → one < 33 → y ≡ write_task (get_or tasks one zero_task) → TasksWritten numbers tasks (OneTask one) (set numbers one y)
+  one_written one {y} small e = record {
+    size = length-set numbers one y ∙ size;
+    written = λ t v same. rw same (here_written numbers tasks one size small e);
+    kept = λ t n. get_or-set_other numbers one t y zero_numbers n;
   }
 
-  pub none_written : 33 ≤ touched → TasksWritten numbers tasks touched numbers
-  none_written large = record {
+  pub outside_written : (one : ℕ) → 33 ≤ one → TasksWritten numbers tasks (OneTask one) numbers
+  outside_written one large = record {
     size = size;
-    written = λ t v h. let r = from_within 1 task_limit t v in ⊎_elim (λ every. absurd (one every)) (λ same. absurd (omega (arith, r.1, same, large))) h;
-    kept = λ t n m. refl;
+    written = λ t v same. let r = from_within 1 task_limit t v in absurd (omega (arith, r.1, same, large));
+    kept = λ t n. refl;
   }
+
+  pub none_written : TasksWritten numbers tasks NoTask numbers
+  none_written = record { size = size; written = λ t v none. absurd none; kept = λ t n. refl }

@@ -1,7 +1,8 @@
 -- What is written back into a host's record.
-use Rattle.std.specs.Prelude.{◌≡◌, List, ◌≢◌, ◌⊎◌, ℕ, T, length, get_or}
+use Rattle.std.specs.Prelude.{◌≡◌, List, ℕ, T, length, get_or}
 use Rattle.model.specs.Rows.{task, valid}
-use Rattle.decide.specs.Touches.{every_task}
+use Rattle.decide.specs.Touches.{Covers}
+use Rattle.decide.specs.declared.Touched.{Touched}
 use Rattle.parts.specs.declared.Task.{Task}
 use Rattle.host_tasks.specs.Tasks.{read_task, rewrite_all}
 use Rattle.host_tasks.specs.declared.HostTask.{HostTask}
@@ -14,12 +15,12 @@ abbrev pub zero_numbers : HostTask
 zero_numbers = record { word = 0; end = 0; sending = 0; wait = 0; object = 0; timed = 0; code = 0; flags = 0 }
 
 -- The numbers of a task that was touched read as the task; those of every other are as they were.
-pub record TasksWritten (numbers : List HostTask) (tasks : List Task) (touched : ℕ) (r : List HostTask) : Type 0 where
+pub record TasksWritten (numbers : List HostTask) (tasks : List Task) (touched : Touched) (r : List HostTask) : Type 0 where
   pub size : length r ≡ 33
-  pub written : (t : ℕ) → T (valid (task t)) → (touched ≡ every_task) ⊎ (t ≡ touched) → read_task (get_or r t zero_numbers) ≡ get_or tasks t zero_task
-  pub kept : (t : ℕ) → touched ≢ every_task → t ≢ touched → get_or r t zero_numbers ≡ get_or numbers t zero_numbers
+  pub written : (t : ℕ) → T (valid (task t)) → Covers touched t → read_task (get_or r t zero_numbers) ≡ get_or tasks t zero_task
+  pub kept : (t : ℕ) → (Covers touched t → ⊥) → get_or r t zero_numbers ≡ get_or numbers t zero_numbers
 
-pub record Written (before : HostRecord) (s : State) (touched : ℕ) (r : HostRecord) : Type 0 where
+pub record Written (before : HostRecord) (s : State) (touched : Touched) (r : HostRecord) : Type 0 where
   pub counter : r.counter ≡ s.counter
   pub tasks : TasksWritten before.tasks s.tasks touched r.tasks
   pub queues : r.queues ≡ s.queues

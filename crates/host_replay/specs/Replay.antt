@@ -1,9 +1,10 @@
 -- The replay that a host's record holds, and what a block and the end of a recording do to it: document 02, item 5, in the host's numbers.
-use Rattle.std.specs.Prelude.{◌≡◌, List, ℕ, ℤ}
+use Rattle.std.specs.Prelude.{◌≡◌, List, ℕ, ℤ, Result}
 use Rattle.model.specs.Codes.{number}
+use Rattle.model.specs.declared.Code.{Code}
 use Rattle.recording.specs.Replay.{Line}
 use Rattle.replays.specs.declared.Replay.{Replay}
-use Rattle.replays.specs.Replays.{TakesBlockAs, EndsAs}
+use Rattle.replays.specs.Replays.{as_result, TakesBlockAs, EndsAs}
 use Rattle.host_record.specs.Record.{state_of}
 use Rattle.host_record.specs.Written.{restored}
 use Rattle.host_replay.specs.declared.HostLine.{HostLine}
@@ -32,6 +33,10 @@ stored lent r = record {
 -- The block found the record as `before`, left it as `after` and gave the code. A refused one leaves every field as it was, unused ones too.
 abbrev pub BlockTaken : HostReplay → List ℕ → HostReplay → ℤ → Type 0
 BlockTaken before block after code = TakesBlockAs replay_of number before block after code
+
+-- The same with a `Result` in the place of the code.
+abbrev pub BlockFed : HostReplay → List ℕ → HostReplay → Result (Unit {0}) Code → Type 0
+BlockFed before block after r = TakesBlockAs replay_of as_result before block after r
 
 abbrev pub line_in : HostLine → Line
 line_in l = record { records = l.records; differ = l.differ; first = l.first; tail = l.tail }

@@ -2,16 +2,14 @@
 // host's record before a block and written back after it.
 #![tactic(auto)]
 
-ghost use Rattle.std.specs.Prelude.{◌≡◌, not, T};
+ghost use Rattle.std.specs.Prelude.{◌≡◌};
 ghost use Rattle.replays.specs.Files.{New};
-ghost use Rattle.host_replay.specs.Replay.{replay_of, stored, BlockTaken, LineGiven};
+ghost use Rattle.host_replay.specs.Replay.{replay_of, stored, BlockFed, LineGiven};
 
 use host_record::HostRecord;
+use model::Code;
 use recording::RECORD_BYTES;
 use replays::{Replay, Tally};
-
-// The number of the code of a block that is taken.
-const E_OK: i32 = 0;
 
 // What a replay keeps between two blocks. What is made of longer numbers comes before what is made of shorter ones, and every byte belongs to a field.
 #[repr(C)]
@@ -28,17 +26,9 @@ pub struct HostReplay {
     pub part: [u8; RECORD_BYTES],
 }
 
-// The replay after a block, the code of the block, and whether it was taken.
-#[derive(Clone, Copy)]
-pub struct HostFed {
-    pub replay: HostReplay,
-    pub code: i32,
-    pub taken: bool,
-}
-
 // The line's four numbers, and the code of the end. The spare word is 0.
 #[repr(C)]
-#[derive(Clone, Copy)]
+#[derive(Clone, Copy, Default)]
 pub struct HostLine {
     pub records: u64,
     pub differ: u64,
@@ -62,78 +52,64 @@ pub fn empty() -> HostReplay
     }
 }
 
-// The replay that the record holds, whatever its numbers are.
-fn replay_of(lent: HostReplay) -> Replay
-    ensures { result ≡ replay_of lent }
+// The replay that the record holds, whatever its numbers are. No `impl From`: that would be public, and only this file asks.
+fn replay_of(lent: &HostReplay) -> Replay
+    ensures { result ≡ replay_of lent.now }
 {
-    let kernel = lent.kernel;
-    let part = lent.part;
-    let state = host_record::state_of(kernel);
     Replay {
-        state,
+        state: host_record::state_of(lent.kernel),
         tally: Tally {
             records: lent.records,
             differ: lent.differ,
             first: lent.first,
         },
-        part,
+        part: lent.part,
         length: lent.length as usize,
     }
 }
 
 // The record that holds the replay after the block.
-fn stored(lent: HostReplay, replay: Replay) -> HostReplay
-    ensures { result ≡ stored lent replay }
+fn stored(lent: &HostReplay, replay: &Replay) -> HostReplay
+    ensures { result ≡ stored lent.now replay.now }
 {
-    let old = lent.kernel;
-    let state = replay.state;
     let tally = replay.tally;
-    let part = replay.part;
     HostReplay {
         records: tally.records,
         differ: tally.differ,
         first: tally.first,
         length: replay.length as u64,
-        kernel: host_record::restored(old, state),
-        part,
+        kernel: host_record::restored(lent.kernel, replay.state),
+        part: replay.part,
     }
 }
 
-// A block of any length, on whatever record: a refused one hands the very record back.
-pub fn feed(lent: HostReplay, block: &[u8]) -> HostFed
-    ensures { BlockTaken lent block.now result.replay result.code × (T (not result.taken) → result.replay ≡ lent) }
+// A block of any length, on whatever record: a refused one leaves the very record.
+#[tactic(auto, using(crate::proofs::Blocks::taken))]
+pub fn feed(lent: &mut HostReplay, block: &[u8]) -> Result<(), Code>
+    ensures { BlockFed lent.old block.now lent.new result }
 {
-    let fed = replay_of(lent).feed(block);
-    let code = fed.code;
-    let number = host_calls::number_of(code);
-    if number != E_OK {
-        return HostFed {
-            replay: lent,
-            code: number,
-            taken: false,
-        };
-    }
-    let replay = fed.replay;
-    HostFed {
-        replay: stored(lent, replay),
-        code: number,
-        taken: true,
-    }
+    let mut replay = replay_of(lent);
+    replay.feed(block)?;
+    *lent = stored(lent, &replay);
+    Ok(())
 }
 
-// The end, on whatever record.
-pub fn end(lent: HostReplay) -> HostLine
-    ensures { LineGiven lent result }
+// The end, on whatever record. A refused one has four zeros.
+pub fn end(lent: &HostReplay) -> HostLine
+    ensures { LineGiven lent.now result }
 {
-    let ended = replay_of(lent).end();
-    let code = ended.code;
-    let tally = ended.tally;
-    HostLine {
-        records: tally.records,
-        differ: tally.differ,
-        first: tally.first,
-        tail: ended.tail,
-        code: host_calls::number_of(code),
-        spare: 0,
+    match replay_of(lent).end() {
+        Ok(line) => HostLine {
+            records: line.tally.records,
+            differ: line.tally.differ,
+            first: line.tally.first,
+            tail: line.tail,
+            code: host_calls::number_of(Code::Ok),
+            spare: 0,
+        },
+        Err(code) => HostLine {
+            code: host_calls::number_of(code),
+            ..HostLine::default()
+        },
     }
 }

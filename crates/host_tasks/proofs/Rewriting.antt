@@ -1,11 +1,12 @@
 -- Numbers written over others read as the task, and stay where they did so already; and those of an array, one after the other.
 use mathlib.Core.Path.{◌≡◌, refl, sym, ap, ◌∙◌, subst}
-use mathlib.Core.Bool.{Bool, true, false, cond}
+use mathlib.Core.Bool.{Bool, true, false, cond, ◌&&◌, and_assoc}
 use mathlib.Core.List.{List, [], ◌∷◌, map}
 use Prim.Native.Nat.{ℕ, zero, suc, ◌+◌, ◌<◌, ◌≤◌}
 use native.Mathlib.Nat.{suc_inj, le_of_suc-le-suc, not-suc-le-zero}
 use native.Mathlib.Omega.{arith}
 use native.Mathlib.Decide.{ℕ_discrete}
+use lib.Dec.{eqb}
 use lib.ListN.{length, get_or, set, length-set}
 use lib.Seq.{get_or-set_same, get_or-set_other, ext_get_or}
 use Rattle.lists.specs.Tests.{Whether, holds, fails}
@@ -33,6 +34,12 @@ is_same x y =
     (λ e. (((((((ap (λ (z : HostTask). z.word) e, ap (λ (z : HostTask). z.end) e), ap (λ (z : HostTask). z.sending) e), ap (λ (z : HostTask). z.wait) e), ap (λ (z : HostTask). z.object) e), ap (λ (z : HostTask). z.timed) e), ap (λ (z : HostTask). z.code) e), ap (λ (z : HostTask). z.flags) e))
     (is_and (is_and (is_and (is_and (is_and (is_and (is_and (is_eqb _ _) (is_eqb _ _)) (is_eqb _ _)) (is_eqb _ _)) (is_eqb _ _)) (is_eqb _ _)) (is_eqb _ _)) (is_eqb _ _))
 
+-- The derived `==` asks the same, grouped from the right.
+pub by_eq : {b : Bool} (x y : HostTask)
+    → b ≡ eqb x.word y.word && (eqb x.end y.end && (eqb x.sending y.sending && (eqb x.wait y.wait && (eqb x.object y.object && (eqb x.timed y.timed && (eqb x.code y.code && eqb x.flags y.flags))))))
+    → b ≡ same_numbers x y
+by_eq x y e = simp (e, and_assoc)
+
 pub reads_again : (x : HostTask) (t : Task) → read_task (rewritten x t) ≡ t
 unfolding rewritten
 reads_again x t = go (is_same (write_task t) (write_task (read_task x)))
@@ -50,9 +57,9 @@ stays_so x = go (is_same (write_task (read_task x)) (write_task (read_task x)))
     go (fails n) = absurd (n refl)
 
 -- By the test, of numbers that are what is written and what would have been written before.
-module _ (x : HostTask) (t : Task) {new old : HostTask} {read : Task} {b : Bool} (New_is : new ≡ write_task t) (read_is : read ≡ read_task x) (old_is : old ≡ write_task read) (b_is : b ≡ same_numbers new old) where
+module _ (x : HostTask) (t : Task) {new old : HostTask} {read : Task} {b : Bool} (new_is : new ≡ write_task t) (read_is : read ≡ read_task x) (old_is : old ≡ write_task read) (b_is : b ≡ same_numbers new old) where
   tests : b ≡ same_numbers (write_task t) (write_task (read_task x))
-  tests = b_is ∙ (ap (λ z. same_numbers z old) New_is ∙ ap (same_numbers (write_task t)) (old_is ∙ ap write_task read_is))
+  tests = b_is ∙ (ap (λ z. same_numbers z old) new_is ∙ ap (same_numbers (write_task t)) (old_is ∙ ap write_task read_is))
 
   pub kept_numbers : b ≡ true → x ≡ rewritten x t
   unfolding rewritten
@@ -60,7 +67,7 @@ module _ (x : HostTask) (t : Task) {new old : HostTask} {read : Task} {b : Bool}
 
   pub new_numbers : b ≡ false → new ≡ rewritten x t
   unfolding rewritten
-  new_numbers e = New_is ∙ ap (λ z. cond z x (write_task t)) (sym e ∙ tests)
+  new_numbers e = new_is ∙ ap (λ z. cond z x (write_task t)) (sym e ∙ tests)
 
 -- ── All tasks ──
 

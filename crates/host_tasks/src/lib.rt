@@ -13,7 +13,7 @@ const NO_QUEUE: u8 = 255;
 
 // A task's numbers; no byte of them is without a name. Its priority and the number behind it stand with the chains.
 #[repr(C)]
-#[derive(Clone, Copy)]
+#[derive(Clone, Copy, PartialEq)]
 pub struct HostTask {
     // The stored pair's word.
     pub word: u32,
@@ -33,46 +33,44 @@ pub struct HostTask {
     pub flags: u32,
 }
 
+// The C interface has numbers for the end of a wait, for its kind and for the two Booleans: so each is read and written by a function of its own.
 fn read_end(timed: u8, tick: u32) -> End
     ensures { result ≡ read_end timed tick }
 {
-    if timed == 0 {
-        return End::Never;
+    match timed {
+        0 => End::Never,
+        _ => End::At(tick),
     }
-    End::At(tick)
 }
 
 // What the task waits for. A number that says nothing reads as a wait at a data queue that there isn't, which no sound record has.
+#[tactic(auto, unfolding(crate::specs::Tasks::wait_of))]
 fn wait_of(numbers: HostTask) -> Wait
     ensures { result ≡ wait_of numbers }
 {
-    let wait = numbers.wait;
     let object = numbers.object;
     let timed = numbers.timed;
-    if wait == 0 {
-        return Wait::NoWait;
-    }
-    if (3 < wait) | (1 < timed) {
-        return Wait::Sending {
+    let tick = numbers.end;
+    match (numbers.wait, timed) {
+        (0, _) => Wait::NoWait,
+        (1, 0 | 1) => Wait::Sending {
+            queue: object,
+            end: read_end(timed, tick),
+            word: numbers.sending,
+        },
+        (2, 0 | 1) => Wait::Receiving {
+            queue: object,
+            end: read_end(timed, tick),
+        },
+        (3, 0 | 1) => Wait::AtMailbox {
+            mailbox: object,
+            end: read_end(timed, tick),
+        },
+        _ => Wait::Sending {
             queue: NO_QUEUE,
             end: End::Never,
             word: 0,
-        };
-    }
-    let end = read_end(timed, numbers.end);
-    if wait == 1 {
-        return Wait::Sending {
-            queue: object,
-            end,
-            word: numbers.sending,
-        };
-    }
-    if wait == 2 {
-        return Wait::Receiving { queue: object, end };
-    }
-    Wait::AtMailbox {
-        mailbox: object,
-        end,
+        },
     }
 }
 
@@ -80,7 +78,7 @@ fn wait_of(numbers: HostTask) -> Wait
 fn is_defined(flags: u32) -> bool
     ensures { result ≡ defined_by flags }
 {
-    (flags == 1) | (flags == 3)
+    matches!(flags, 1 | 3)
 }
 
 fn is_suspended(flags: u32) -> bool
@@ -89,16 +87,18 @@ fn is_suspended(flags: u32) -> bool
     1 < flags
 }
 
-pub fn read_task(numbers: HostTask) -> Task
-    ensures { result ≡ read_task numbers }
-{
-    let wait = wait_of(numbers);
-    Task {
-        wait,
-        word: numbers.word,
-        code: numbers.code,
-        defined: is_defined(numbers.flags),
-        suspended: is_suspended(numbers.flags),
+impl From<HostTask> for Task {
+    ghost from_gives = { λ numbers result. result ≡ read_task numbers };
+
+    #[tactic(auto, unfolding(crate::specs::Tasks::read_task))]
+    fn from(numbers: HostTask) -> Task {
+        Task {
+            wait: wait_of(numbers),
+            word: numbers.word,
+            code: numbers.code,
+            defined: is_defined(numbers.flags),
+            suspended: is_suspended(numbers.flags),
+        }
     }
 }
 
@@ -106,12 +106,11 @@ pub fn read_task(numbers: HostTask) -> Task
 pub fn tasks_of(numbers: [HostTask; TASK_CELLS]) -> [Task; TASK_CELLS]
     ensures { result ≡ map read_task numbers }
 {
-    let first = read_task(numbers[0]);
+    // No `map`: each call of a host would take some 1,250 instructions more.
+    let first = Task::from(numbers[0]);
     let mut tasks = [first; TASK_CELLS];
-    let mut t: usize = 1;
-    while t < TASK_CELLS {
-        tasks[t] = read_task(numbers[t]);
-        t += 1;
+    for t in 1..TASK_CELLS {
+        tasks[t] = Task::from(numbers[t]);
     }
     tasks
 }
@@ -137,53 +136,37 @@ fn tick_of(end: End) -> u32
 fn flags_of(defined: bool, suspended: bool) -> u32
     ensures { result ≡ flags_of defined suspended }
 {
-    if defined {
-        return if suspended { 3 } else { 1 };
-    }
-    if suspended { 2 } else { 0 }
+    u32::from(defined) + 2 * u32::from(suspended)
 }
 
 // The numbers of a task. Those that say nothing of it are 0.
-pub fn write_task(task: Task) -> HostTask
-    ensures { result ≡ write_task task }
-{
-    let wait = task.wait;
-    let end = parts::wait_end(wait);
-    HostTask {
-        word: task.word,
-        end: tick_of(end),
-        sending: parts::held_word(wait),
-        wait: parts::wait_number(wait),
-        object: parts::wait_object(wait),
-        timed: timed_of(end),
-        code: task.code,
-        flags: flags_of(task.defined, task.suspended),
-    }
-}
+impl From<Task> for HostTask {
+    ghost from_gives = { λ task result. result ≡ write_task task };
 
-fn same_numbers(x: HostTask, y: HostTask) -> bool
-    ensures { result ≡ same_numbers x y }
-{
-    (x.word == y.word)
-        & (x.end == y.end)
-        & (x.sending == y.sending)
-        & (x.wait == y.wait)
-        & (x.object == y.object)
-        & (x.timed == y.timed)
-        & (x.code == y.code)
-        & (x.flags == y.flags)
+    #[tactic(auto, unfolding(crate::specs::Tasks::write_task))]
+    fn from(task: Task) -> HostTask {
+        let wait = task.wait;
+        let end = parts::wait_end(wait);
+        HostTask {
+            word: task.word,
+            end: tick_of(end),
+            sending: parts::held_word(wait),
+            wait: parts::wait_number(wait),
+            object: parts::wait_object(wait),
+            timed: timed_of(end),
+            code: task.code,
+            flags: flags_of(task.defined, task.suspended),
+        }
+    }
 }
 
 // The numbers of a task, written over others. Those that read as the task already stay: a table of which all calls are refused leaves every byte.
 fn rewritten(numbers: HostTask, task: Task) -> HostTask
     ensures { result ≡ rewritten numbers task }
 {
-    let new = write_task(task);
-    let old = write_task(read_task(numbers));
-    if same_numbers(new, old) {
-        return numbers;
-    }
-    new
+    let new = HostTask::from(task);
+    let old = HostTask::from(Task::from(numbers));
+    if new == old { numbers } else { new }
 }
 
 // All tasks of a record.
@@ -193,10 +176,8 @@ pub fn rewrite_all(
 ) -> [HostTask; TASK_CELLS]
     ensures { result ≡ rewrite_all numbers tasks }
 {
-    let mut n: usize = 0;
-    while n < TASK_CELLS {
+    for n in 0..TASK_CELLS {
         numbers[n] = rewritten(numbers[n], tasks[n]);
-        n += 1;
     }
     numbers
 }

@@ -11,7 +11,6 @@ use Rattle.record.specs.declared.State.{State}
 use Rattle.record.specs.declared.Step.{Step}
 use Rattle.record.specs.Meaning.{abs}
 use Rattle.record.specs.Sound.{Readable, Sound}
-use Rattle.kernel.specs.declared.Judgement.{Judgement}
 
 -- A decision that may change the record is for a sound one, whose rows are as it asks.
 pub record Appliable (s : State) (d : Decision) : Type 0 where
@@ -25,11 +24,6 @@ pub record Judged (s : State) (c : Call) (d : Decision) : Type 0 where
   pub sound : c.number ≤ call_limit → Sound s → Decided (abs s) c d
   -- So it can be applied.
   pub appliable : Appliable s d
-
--- The judgement, and whether it changes anything.
-pub record Weighed (s : State) (c : Call) (j : Judgement) : Type 0 where
-  pub judged : Judged s c j.decision
-  pub changes_is : j.changes ≡ changed_by j.decision
 
 -- State and answer are those that the decision stands for, and rows can be read from the new record; one that changes nothing hands back the very record.
 pub record Applied (s : State) (d : Decision) (r : Step) : Type 0 where

@@ -1,8 +1,6 @@
 // The kernel: any record with any call or tick, to the end. A call is judged, which changes nothing, and then its decision is applied: see, decide, apply.
 #![tactic(auto)]
 
-ghost use Rattle.std.specs.Prelude.{◌≡◌};
-ghost use Rattle.model.specs.Codes.{finished};
 ghost use Rattle.record.specs.Sound.{Sound};
 ghost use Rattle.record.specs.Step.{Stepped};
 ghost use Rattle.kernel.specs.Steps.{Judged, Appliable, Applied};
@@ -11,30 +9,23 @@ use decide::Decision;
 use model::{CALL_LIMIT, Call, Code};
 use record::{State, Step};
 
-// A method must stand in the crate of its type, so the step is a method of a type that holds the state.
+// The steps are methods, `Kernel::step` and `Kernel::advance` in the documents, and a method must stand in the crate of its type.
 #[derive(Clone, Copy)]
 pub struct Kernel {
     pub state: State,
 }
 
-// What a call comes to, and whether that changes anything.
-#[derive(Clone, Copy)]
-pub struct Judgement {
-    pub decision: Decision,
-    pub changes: bool,
-}
-
-// What a call, or with number 0 the tick, comes to on whatever record.
+// What a call, or with number 0 the tick, comes to on whatever record. By value, as the step has it: lent to `judge`, the record stands on the stack of a
+// host's call once more (2,352 bytes).
 pub fn judge(state: State, call: Call) -> Decision
     ensures { Judged state call result }
 {
     if CALL_LIMIT < call.number {
         return Decision::Refuse(Code::Par);
     }
-    let seen = see::see(state, call);
-    if !seen.sound {
+    let Some(seen) = see::see(&state, call) else {
         return Decision::Refuse(Code::Sys);
-    }
+    };
     decide::decide(call, seen)
 }
 
@@ -43,26 +34,24 @@ pub fn judge_sound(state: State, call: Call) -> Decision
     requires { Sound state }
     ensures { Judged state call result }
 {
-    let seen = see::view(state, call);
+    let seen = see::view(&state, call);
     decide::decide(call, seen)
 }
 
-// A decision that changes nothing hands back the very record.
-fn say(state: State, code: Code, a: u32, b: u32, c: u32) -> Step
-    ensures { result ≡ record { state = state; answer = finished code a b c } }
-{
-    let answer = record::finished(code, a, b, c);
-    Step { state, answer }
-}
-
-// What a decision does to the record: each case is one function by value.
+// What a decision does to the record: each case is one function by value. A decision that changes nothing hands back the very record.
 pub fn apply(state: State, decision: Decision) -> Step
     requires { Appliable state decision }
     ensures { Applied state decision result }
 {
     match decision {
-        Decision::Refuse(code) => say(state, code, 0, 0, 0),
-        Decision::Say { code, a, b, c } => say(state, code, a, b, c),
+        Decision::Refuse(code) => Step {
+            state,
+            answer: record::finished(code, 0, 0, 0),
+        },
+        Decision::Say { code, a, b, c } => Step {
+            state,
+            answer: record::finished(code, a, b, c),
+        },
         Decision::Tick => tasks::tick(state),
         Decision::DefineTask { task, priority } => tasks::define(state, task, priority),
         Decision::EndWait(task) => tasks::end_wait(state, task),
@@ -96,23 +85,13 @@ pub fn apply(state: State, decision: Decision) -> Step
     }
 }
 
-// The step of a call that changes something.
-pub fn carry_out(state: State, judged: Judgement) -> Step
-    requires { Appliable state judged.decision }
-    ensures { Applied state judged.decision result }
-{
-    let decision = judged.decision;
-    apply(state, decision)
-}
-
 impl Kernel {
     // One call, or with number 0 the tick, on whatever record.
     pub fn step(self, call: Call) -> Step
         ensures { Stepped self.state call result }
     {
-        let state = self.state;
-        let decision = judge(state, call);
-        apply(state, decision)
+        let decision = judge(self.state, call);
+        apply(self.state, decision)
     }
 
     // The same behind the test, for a record that is known to be sound.
@@ -120,8 +99,7 @@ impl Kernel {
         requires { Sound self.state }
         ensures { Stepped self.state call result }
     {
-        let state = self.state;
-        let decision = judge_sound(state, call);
-        apply(state, decision)
+        let decision = judge_sound(self.state, call);
+        apply(self.state, decision)
     }
 }

@@ -29,60 +29,32 @@ const ADVANCE: u8 = 2;
 
 // ── Records ──
 
-// The next record of the input, and whether all of its bytes were there: not so at the end.
-#[derive(Clone, Copy)]
-struct Read {
-    bytes: [u8; RECORD_BYTES],
-    is_whole: bool,
-}
-
-// A read that fails is the end too. One that a signal interrupts is made again.
-fn read_record(input: &mut impl io::Read) -> Read
-    ensures { 32 ≡ length result.bytes }
-{
+// The next record of the input; none at the end, or where bytes of it are missing. A read that fails is the end too. One that a signal interrupts is made again.
+fn read_record(input: &mut impl io::Read) -> Option<[u8; RECORD_BYTES]> {
     let mut bytes = [0u8; RECORD_BYTES];
-    let is_whole = input.read_exact(&mut bytes).is_ok();
-    Read { bytes, is_whole }
+    input.read_exact(&mut bytes).ok()?;
+    Some(bytes)
 }
 
 // ── The checksum ──
 
-// The number of a code in document 01's error table, without its sign.
-fn number_of(code: Code) -> u32 {
-    match code {
-        Code::Ok => 0,
-        Code::Sys => 5,
-        Code::Par => 17,
-        Code::Id => 18,
-        Code::Ctx => 25,
-        Code::Iluse => 28,
-        Code::Obj => 41,
-        Code::Noexs => 42,
-        Code::Qovr => 43,
-        Code::Rlwai => 49,
-        Code::Tmout => 50,
-        Code::Dlt => 51,
-    }
-}
-
 // The sum with one word more.
 fn mixed(sum: u32, word: u32) -> u32 {
-    (sum << 5 | sum >> 27) ^ word
+    sum.rotate_left(5) ^ word
 }
 
-// A wait's place is told from a code by a bit that neither has.
+// A code counts without its sign. A wait's place is told from it by a bit that neither has.
 fn with_outcome(sum: u32, outcome: Outcome) -> u32 {
     match outcome {
-        Outcome::Finished(code) => mixed(sum, number_of(code)),
+        Outcome::Finished(code) => mixed(sum, host_calls::number_of(code).unsigned_abs()),
         Outcome::Waits(place) => mixed(sum, place ^ 65536),
     }
 }
 
 fn with_answer(sum: u32, answer: Answer) -> u32 {
-    let outcome = answer.outcome;
-    mixed(
-        mixed(mixed(with_outcome(sum, outcome), answer.a), answer.b),
-        answer.c,
+    [answer.a, answer.b, answer.c].iter().fold(
+        with_outcome(sum, answer.outcome),
+        |sum, word| mixed(sum, *word),
     )
 }
 
@@ -93,21 +65,18 @@ fn undefined(state: State, task: u8) -> State
     requires { Sound state }
     ensures { Sound result }
 {
-    let mut next = state;
     if 32 < task {
         return state;
     }
-    next.tasks[task as usize] = Task {
+    let mut next = state;
+    next.tasks[usize::from(task)] = Task {
         wait: Wait::NoWait,
         word: 0,
         code: OK,
         defined: false,
         suspended: false,
     };
-    if !see::sound(next) {
-        return state;
-    }
-    next
+    if see::sound(&next) { next } else { state }
 }
 
 // The empty record with this counter.
@@ -115,12 +84,8 @@ fn started(counter: u32) -> State
     ensures { Sound result }
 {
     let empty = State::empty();
-    let mut state = empty;
-    state.counter = counter;
-    if !see::sound(state) {
-        return empty;
-    }
-    state
+    let state = State { counter, ..empty };
+    if see::sound(&state) { state } else { empty }
 }
 
 // One call through the entry.
@@ -139,77 +104,75 @@ fn advance(state: State, call: Call) -> Step
     Kernel { state }.advance(call)
 }
 
+// No call: its own fields stand for an answer.
+fn unplayed(state: State, call: Call) -> Step
+    ensures { result.state ≡ state }
+{
+    let answer = record::finished(Code::Ok, call.value, u32::from(call.object), call.attribute);
+    Step { state, answer }
+}
+
 // The records up to the mark, each through the entry. A proved loop has to end, and nothing says that the input does: so the turns are counted.
 fn set_up(input: &mut impl io::Read, counter: u32) -> State
     ensures { Sound result }
 {
     let mut state = started(counter);
     for _ in 0..u64::MAX {
-        let read = read_record(input);
-        let record = read.bytes;
-        let number = record[0];
-        if number == MARK {
+        let Some(record) = read_record(input) else {
+            return state;
+        };
+        if record[0] == MARK {
             return state;
         }
-        if !read.is_whole {
-            return state;
-        }
-        let done = through(state, recording::call_of(&record));
-        state = done.state;
+        state = through(state, recording::call_of(&record)).state;
     }
     state
 }
 
-// One record behind the mark: what is done with it, and its answer. Where the call isn't played, its own fields stand for an answer.
-fn lap(state: State, call: Call, how: u8) -> Step
-    requires { Sound state }
+// One record behind the mark: what is done with it, and its answer.
+fn lap<F: Fn(State, Call) -> Step>(state: State, call: Call, step: &F) -> Step
+    requires sound { Sound state }
+    requires plays { (s : State) (c : Call) → Sound s → F.pre step.now s c }
+    requires keeps { (s : State) (c : Call) (r : Step) → Sound s → F.post step.now s c r → Sound r.state }
     ensures { Sound result.state }
 {
-    let number = call.number;
-    if number == UNDEFINE {
-        let next = undefined(state, call.object);
-        let none = record::finished(Code::Ok, 0, 0, 0);
+    if call.number == UNDEFINE {
         return Step {
-            state: next,
-            answer: none,
+            state: undefined(state, call.object),
+            answer: record::finished(Code::Ok, 0, 0, 0),
         };
     }
-    if how == ENTER {
-        return through(state, call);
-    }
-    if how == ADVANCE {
-        return advance(state, call);
-    }
-    let answer = record::finished(Code::Ok, call.value, call.object as u32, call.attribute);
-    Step { state, answer }
+    step(state, call)
 }
 
 // The records behind the mark, and the checksum of their answers.
-fn play(input: &mut impl io::Read, start: State, how: u8) -> u32
-    requires { Sound start }
+fn play<F: Fn(State, Call) -> Step>(input: &mut impl io::Read, start: State, step: F) -> u32
+    requires sound { Sound start }
+    requires plays { (s : State) (c : Call) → Sound s → F.pre step s c }
+    requires keeps { (s : State) (c : Call) (r : Step) → Sound s → F.post step s c r → Sound r.state }
 {
     let mut state = start;
     let mut sum: u32 = 1;
     for _ in 0..u64::MAX {
-        let read = read_record(input);
-        if !read.is_whole {
+        let Some(record) = read_record(input) else {
             return sum;
-        }
-        let record = read.bytes;
-        let done = lap(state, recording::call_of(&record), how);
-        let answer = done.answer;
+        };
+        let done = lap(state, recording::call_of(&record), &step);
         state = done.state;
-        sum = with_answer(sum, answer);
+        sum = with_answer(sum, done.answer);
     }
     sum
 }
 
+// Where the first record is missing, there is none behind it: any bytes will do.
 fn main(rt: HostRuntime) -> io::Result<()> {
     let mut input = rt.stdin();
-    let first = read_record(&mut input);
-    let record = first.bytes;
-    let how = record[0];
+    let record = read_record(&mut input).unwrap_or([0; RECORD_BYTES]);
     let start = set_up(&mut input, recording::word_at(&record, 4));
-    let sum = play(&mut input, start, how);
+    let sum = match record[0] {
+        ENTER => play(&mut input, start, through),
+        ADVANCE => play(&mut input, start, advance),
+        _ => play(&mut input, start, unplayed),
+    };
     println!(rt; "{sum}")
 }

@@ -47,18 +47,19 @@ pub fn linguastel_unguarded_call(lent: &mut HostRecord, call: HostCall) -> HostA
     ensures { Called lent.old call lent.new result }
 {
     let state = host_record::state_of(*lent);
-    let judged = host_record::judge(state, call);
-    if judged.changes {
-        let stepped = kernel::carry_out(state, judged);
-        *lent = host_record::stored(*lent, stepped, judged);
-        return host_record::answered(stepped);
+    let decision = host_record::judge(state, call);
+    let changes = decide::changes(decision);
+    if changes {
+        let stepped = kernel::apply(state, decision);
+        *lent = host_record::stored(*lent, stepped, decision);
+        return HostAnswer::from(stepped.answer);
     }
-    host_record::said(judged)
+    host_record::said(decision)
 }
 
 // Which tasks wait, and which can run. It only reads the record, and is right of whatever record is lent.
 pub fn linguastel_unguarded_task_sets(lent: &HostRecord) -> TaskSets
     ensures { SetsOf lent.now result }
 {
-    host_record::task_sets(*lent)
+    host_record::task_sets(lent)
 }

@@ -11,6 +11,7 @@ ghost use Rattle.host_replay.specs.Replay.{replay_of, BlockTaken, LineGiven};
 ghost use Rattle.host_replay.specs.Layout.{replay_size, replay_align};
 
 use host_replay::{HostLine, HostReplay};
+use model::Code;
 
 // The version of this library, for a host to compare with that of its header.
 pub fn linguastel_replay_version() -> u32
@@ -43,16 +44,16 @@ pub fn linguastel_unguarded_replay_empty(lent: &mut HostReplay)
 pub fn linguastel_unguarded_replay_feed(lent: &mut HostReplay, block: &[u8]) -> i32
     ensures { BlockTaken lent.old block.now lent.new result }
 {
-    let fed = host_replay::feed(*lent, block);
-    if fed.taken {
-        *lent = fed.replay;
-    }
-    fed.code
+    let code = match host_replay::feed(lent, block) {
+        Ok(()) => Code::Ok,
+        Err(code) => code,
+    };
+    host_calls::number_of(code)
 }
 
 // The end of the recording, on whatever record is lent. It changes nothing, so that a host may ask for the line between two blocks as well.
 pub fn linguastel_unguarded_replay_end(lent: &HostReplay) -> HostLine
     ensures { LineGiven lent.now result }
 {
-    host_replay::end(*lent)
+    host_replay::end(lent)
 }

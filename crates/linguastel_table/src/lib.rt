@@ -10,6 +10,7 @@ ghost use Rattle.linguastel_table.specs.TableCalled.{TableCalled};
 
 use host_calls::{HostAnswer, HostCall};
 use host_record::HostRecord;
+use model::{Call, Code};
 
 // The version of this library, for a host to compare with that of its header.
 pub fn linguastel_table_version() -> u32
@@ -27,22 +28,21 @@ pub fn linguastel_unguarded_table(
     ensures { TableCalled lent.old calls.now answers.old lent.new answers.new result }
 {
     let mut state = host_record::state_of(*lent);
-    let tested = host_record::table_test(state, calls.len(), answers.len());
-    if tested.runs {
-        let mut i: usize = 0;
-        while i < calls.len() {
-            let judged = host_record::table_judge(state, calls[i]);
-            let answer = if judged.changes {
-                let stepped = kernel::carry_out(state, judged);
-                state = stepped.state;
-                host_record::answered(stepped)
-            } else {
-                host_record::said(judged)
-            };
-            answers[i] = answer;
-            i += 1;
-        }
-        *lent = host_record::restored(*lent, state);
+    if let Err(code) = tables::test(state, calls.len(), answers.len()) {
+        return host_calls::number_of(code);
     }
-    tested.code
+    // Crate thin has this walk over any types: by its seven closures it is no plainer.
+    for (i, call) in calls.iter().enumerate() {
+        let decision = tables::judge(state, Call::from(*call));
+        let changes = decide::changes(decision);
+        answers[i] = if changes {
+            let stepped = kernel::apply(state, decision);
+            state = stepped.state;
+            HostAnswer::from(stepped.answer)
+        } else {
+            host_record::said(decision)
+        };
+    }
+    *lent = host_record::restored(*lent, state);
+    host_calls::number_of(Code::Ok)
 }

@@ -3,25 +3,14 @@
 // mailbox b's, and chain WAITERS + b of the table of waiting tasks has those that wait at it.
 #![tactic(auto)]
 
-ghost use Rattle.std.specs.Prelude.{◌≡◌, cond, ◌≤◌, T};
+ghost use Rattle.std.specs.Prelude.{◌≡◌};
 ghost use Rattle.model.specs.Mailboxes.{create, delete, deliver_message, queue_message, take_message};
 ghost use Rattle.record.specs.Step.{Does};
 ghost use Rattle.mailboxes.specs.Premises.{mailbox_in, Creatable, OnMailbox, Deliverable, Queueable, Takeable};
 
 use model::Code;
-use parts::{DLT, MESSAGE_CHAINS, MESSAGES, Mailbox, OK, TASK_CHAINS, TASKS, WAITERS};
+use parts::{MESSAGE_TABLE, Mailbox, OK, TASK_TABLE, WAITERS};
 use record::{State, Step};
-
-// A message's priority, as it is kept: only where messages go by priority, and there it is 16 at most. Elsewhere a call may name any number, and 0 is kept.
-fn kept(ranked: bool, priority: u32) -> u8
-    requires { T ranked → priority ≤ 16 }
-    ensures { result ≡ cond ranked priority 0 }
-{
-    if ranked {
-        return priority as u8;
-    }
-    0
-}
 
 // A new mailbox, where nobody waits and no message is queued.
 pub fn create(mut state: State, mailbox: u8, attribute: u8, highest: u8) -> Step
@@ -44,15 +33,8 @@ pub fn delete(mut state: State, mailbox: u8) -> Step
     ensures { Does (delete mailbox (mailbox_in state mailbox)) state result }
 {
     let i = mailbox as usize;
-    let waiters = WAITERS + i;
-    let mut head = chain::first(&state.waiting.link, TASKS, TASK_CHAINS, waiters);
-    while head != 0 {
-        let t = head as usize;
-        chain::remove(&mut state.waiting.link, TASKS, TASK_CHAINS, waiters, head);
-        state.tasks[t] = parts::ended(state.tasks[t], DLT, 0);
-        head = chain::first(&state.waiting.link, TASKS, TASK_CHAINS, waiters);
-    }
-    chain::clear(&mut state.messages.link, MESSAGES, MESSAGE_CHAINS, i);
+    waits::end_all(&mut state, WAITERS + i);
+    state.messages.clear(MESSAGE_TABLE, i);
     state.mailboxes[i] = Mailbox {
         defined: 0,
         attribute: 0,
@@ -68,8 +50,7 @@ pub fn deliver_message(mut state: State, mailbox: u8, message: u32) -> Step
     ensures { Does (deliver_message mailbox (mailbox_in state mailbox) message) state result }
 {
     let waiters = WAITERS + mailbox as usize;
-    let head = chain::pop(&mut state.waiting.link, TASKS, TASK_CHAINS, waiters);
-    let t = head as usize;
+    let t = state.waiting.pop(TASK_TABLE, waiters) as usize;
     state.tasks[t] = parts::ended(state.tasks[t], OK, message);
     let answer = record::finished(Code::Ok, 0, 0, 0);
     Step { state, answer }
@@ -83,12 +64,11 @@ pub fn queue_message(mut state: State, mailbox: u8, message: u8, priority: u32) 
     let i = mailbox as usize;
     let row = state.mailboxes[i];
     let ranked = parts::ranks_messages(row.attribute);
-    let rank = kept(ranked, priority);
+    // A message's priority is kept only where messages go by it, and there it is 16 at most. Elsewhere a call may name any number, and 0 is kept.
+    let rank = if ranked { priority as u8 } else { 0 };
     let behind = waits::limit(ranked, rank);
-    chain::set_key(&mut state.messages.key, message as usize, rank);
-    let keys = state.messages.key;
-    let link = &mut state.messages.link;
-    let place = chain::insert(link, &keys, MESSAGES, MESSAGE_CHAINS, i, message, behind);
+    state.messages.set_key(message as usize, rank);
+    let place = state.messages.insert(MESSAGE_TABLE, i, message, behind);
     let answer = record::finished(Code::Ok, place as u32, 0, 0);
     Step { state, answer }
 }
@@ -99,7 +79,7 @@ pub fn take_message(mut state: State, mailbox: u8) -> Step
     ensures { Does (take_message mailbox (mailbox_in state mailbox)) state result }
 {
     let i = mailbox as usize;
-    let message = chain::pop(&mut state.messages.link, MESSAGES, MESSAGE_CHAINS, i);
+    let message = state.messages.pop(MESSAGE_TABLE, i);
     let answer = record::finished(Code::Ok, message as u32, 0, 0);
     Step { state, answer }
 }

@@ -58,7 +58,7 @@ module _ {m : Program.Rows Row} (w : WellFormedRows m) (b : ℕ) (valid_mailbox 
         → (T (messages_by_priority (m (mailbox b)).attribute) → InOrder 1 (m (mailbox b)).highest (map (λ j. (rows j).priority) l))
         → WellFormedRows (update same_key (message g) x (update same_key (mailbox b) changed_row m))
     unfolding same_key update
-    message_moved valid_message fits Only_here stands order =
+    message_moved valid_message fits only_here stands order =
         rw (fun_ext same) (put_mailbox w b changed_row rows valid_mailbox fits refl (w.waiting_in_order (waiters_of b)) in_range stands order priorities)
       where
         same : (k : Key) → update same_key (message g) x (update same_key (mailbox b) changed_row m) k ≡ update same_key (mailbox b) changed_row (with_message_rows rows m) k
@@ -74,7 +74,7 @@ module _ {m : Program.Rows Row} (w : WellFormedRows m) (b : ℕ) (valid_mailbox 
             (λ n. absurd (T_not (valid (message g)) n valid_message)) j (λ d. w.in_range (message j))
 
         priorities : (k j : ℕ) → k ≢ b → In j (m (mailbox k)).messages → (m (message j)).priority ≡ (rows j).priority
-        priorities k j n i = ap (λ (y : MessageRow). y.priority) (sym (update_other ℕ_discrete g x (λ j. m (message j)) j (λ e. Only_here k n (rw e at (w.queued.no_other j k i)))))
+        priorities k j n i = ap (λ (y : MessageRow). y.priority) (sym (update_other ℕ_discrete g x (λ j. m (message j)) j (λ e. only_here k n (rw e at (w.queued.no_other j k i)))))
 
   -- A free message joins, at a place by its priority where the messages go by priority, and no task waits there.
   pub join_message : (g n p : ℕ) → T (m (mailbox b)).defined → T (empty (m (mailbox b)).waiters) → T (valid (message g)) → T (eqb (m (message g)).queued_in 0)

@@ -68,7 +68,7 @@ pub record Stepped {S : Type 0} (E : Engine S) (s : S) (c : Call) (after : S) (a
   pub unsound : c.number ≤ call_limit → (E.Sound s → ⊥) → RefusedWith E_SYS s after answer
   pub sound : c.number ≤ call_limit → E.Sound s → Follows E s c after answer
 
--- The same with the call and the answer written otherwise, as in numbers alone: `call-of` says which call is meant, `answer-of` how an answer is written.
+-- The same with the call and the answer written otherwise, as in numbers alone: `call_of` says which call is meant, `answer_of` how an answer is written.
 pub record SteppedAs {S C A : Type 0} (E : Engine S) (call_of : C → Call) (answer_of : Answer → A) (s : S) (c : C) (after : S) (given : A) : Type 0 where
   pub answer : Answer
   pub stepped : Stepped E s (call_of c) after answer

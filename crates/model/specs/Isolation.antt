@@ -76,7 +76,7 @@ abbrev pub Disjoint : Carrier → Carrier → Type 0
 Disjoint a b = (k : Key) → Own a k → Own b k → ⊥
 
 -- Two carriers that have no number in common, each with any list of calls, of known number or not, refused ones too, but no tick, whose valid numbers are its
--- own. `call-of` says as which call each one is read.
+-- own. `call_of` says as which call each one is read.
 pub record ListsOfTwo {C : Type 0} (call_of : C → Call) (a b : Carrier) (xs ys : List C) : Type 0 where
   pub disjoint : Disjoint a b
   pub calls_of_a : Each (λ c. CallOf (Own a) (call_of c)) xs
@@ -127,7 +127,7 @@ IsolationOfMany =
 
 -- ── With tables (document 02, item 2) ──
 
--- Each entry of a list stands for calls made in a row: a table's (`calls-made`), or one call made singly. Every merge answers as each list alone does, entry
+-- Each entry of a list stands for calls made in a row: a table's (`calls_made`), or one call made singly. Every merge answers as each list alone does, entry
 -- by entry, and all merges end in equal states.
 abbrev pub IsolationInRows : Type 0
 IsolationInRows =

@@ -81,8 +81,8 @@ pub struct Answer {
     pub c: u32,
 }
 
-// When a wait ends by itself.
-#[derive(Clone, Copy)]
+// When a wait ends by itself. An enum of its own: document 01's list of forms by place names an end enum, for ever or at a tick.
+#[derive(Clone, Copy, PartialEq)]
 pub enum End {
     Never,
     // In the tick that brings the counter here.
@@ -90,7 +90,7 @@ pub enum End {
 }
 
 // What a task waits for.
-#[derive(Clone, Copy)]
+#[derive(Clone, Copy, PartialEq)]
 pub enum Wait {
     NoWait,
     Sending { queue: u8, end: End, word: u32 },

@@ -11,26 +11,26 @@ use model::Call;
 pub fn within(low: u32, high: u32, n: u32) -> bool
     ensures { result ≡ sizes.within low high n }
 {
-    (low <= n) & (n <= high)
+    (low..=high).contains(&n)
 }
 
+#[tactic(auto, unfolding(lists::specs::Lists::one_of))]
 pub fn names_task(call: Call) -> bool
     ensures { result ≡ calls.names_task call }
 {
-    let n = call.number;
-    (n == 1) | (n == 19) | (n == 20) | (n == 21) | (n == 22) | (n == 23)
+    matches!(call.number, 1 | 19..=23)
 }
 
 pub fn names_queue(call: Call) -> bool
     ensures { result ≡ calls.names_queue call }
 {
-    within(2, 11, call.number as u32)
+    matches!(call.number, 2..=11)
 }
 
 pub fn names_mailbox(call: Call) -> bool
     ensures { result ≡ calls.names_mailbox call }
 {
-    within(12, 18, call.number as u32)
+    matches!(call.number, 12..=18)
 }
 
 pub fn names_message(call: Call) -> bool
@@ -40,6 +40,7 @@ pub fn names_message(call: Call) -> bool
 }
 
 // The numbers that a call names, 0 where it names none of that kind.
+// No enum of kinds in place of a function for each: each has its own definition in crate model, and a message's number stands in another field.
 pub fn task_named(call: Call) -> u8
     ensures { result ≡ calls.task_named call }
 {

@@ -1,11 +1,11 @@
 -- A mailbox's test says what `MailboxSound` says: a list is empty exactly where its chain's first number is 0, and the attributes 0 to 3 are four cases.
 use mathlib.Core.Path.{◌≡◌, refl, sym, ◌∙◌}
-use mathlib.Core.Bool.{Bool, true, false, cond, ◌||◌}
+use mathlib.Core.Bool.{Bool, true, false, cond}
 use mathlib.Core.List.{List, [], head_d}
 use mathlib.Core.Logic.{◌⊎◌, inl, inr, ⊎_elim}
 use Prim.Native.Nat.{ℕ, zero, suc, ◌+◌, ◌<◌, ◌≤◌, zero-le}
 use native.Mathlib.Omega.{arith}
-use lib.Dec.{T, leb, eqb, leb→le}
+use lib.Dec.{T, leb, leb→le}
 use lib.ListN.{get_or}
 use borrow.Author.Tests.{eq-eqb, ne_eqb, leb-false}
 use Rattle.lists.specs.Lists.{InOrder, one_of}
@@ -22,21 +22,13 @@ use Rattle.parts.specs.Queues.{is_defined}
 use Rattle.parts.specs.declared.Mailbox.{Mailbox}
 use Rattle.parts.proofs.Empty.{chain_zero, unless_empty, zero_or}
 
--- Two tests of an attribute agree if they do from 0 to 3.
-attributes_agree : (f g : ℕ → Bool) → f 0 ≡ g 0 → f 1 ≡ g 1 → f 2 ≡ g 2 → f 3 ≡ g 3 → (attribute : ℕ) → attribute ≤ 3 → f attribute ≡ g attribute
-attributes_agree f g e₀ e₁ e₂ e₃ zero h = e₀
-attributes_agree f g e₀ e₁ e₂ e₃ (suc zero) h = e₁
-attributes_agree f g e₀ e₁ e₂ e₃ (suc (suc zero)) h = e₂
-attributes_agree f g e₀ e₁ e₂ e₃ (suc (suc (suc zero))) h = e₃
-attributes_agree f g e₀ e₁ e₂ e₃ (suc (suc (suc (suc attribute)))) h = absurd (omega arith)
-
-waiters_go_by_priority : (attribute : ℕ) → attribute ≤ 3 → waiters_by_priority attribute ≡ (eqb attribute 1 || eqb attribute 3)
-unfolding one_of
-waiters_go_by_priority = attributes_agree waiters_by_priority (λ attribute. eqb attribute 1 || eqb attribute 3) refl refl refl refl
-
 messages_go_by_priority : (attribute : ℕ) → attribute ≤ 3 → messages_by_priority attribute ≡ leb 2 attribute
 unfolding one_of
-messages_go_by_priority = attributes_agree messages_by_priority (leb 2) refl refl refl refl
+messages_go_by_priority zero h = refl
+messages_go_by_priority (suc zero) h = refl
+messages_go_by_priority (suc (suc zero)) h = refl
+messages_go_by_priority (suc (suc (suc zero))) h = refl
+messages_go_by_priority (suc (suc (suc (suc attribute)))) h = absurd (omega arith)
 
 -- The highest message priority that is kept.
 abbrev kept_highest : ℕ → ℕ → ℕ
@@ -71,8 +63,8 @@ module _ (x : Mailbox) {link key message_link message_key : List ℕ} {number : 
   Tested =
       MailboxNumbersSound x.attribute x.highest
       × (((waiter ≡ 0) ⊎ (message ≡ 0))
-      × ((T (eqb x.attribute 1 || eqb x.attribute 3) → InOrder 1 priority_limit (keys_of key (get_or (lists task_limit task_chains link) (32 + number) [])))
-      × (T (leb 2 x.attribute) → InOrder 1 x.highest (keys_of message_key (get_or (lists message_limit message_chains message_link) number [])))))
+      × ((T (waiters_by_priority x.attribute) → InOrder 1 priority_limit (keys_of key (get_or (lists task_limit task_chains link) (32 + number) [])))
+      × (T (messages_by_priority x.attribute) → InOrder 1 x.highest (keys_of message_key (get_or (lists message_limit message_chains message_link) number [])))))
 
   pub defined_mailbox : {b : Bool} → x.defined ≡ 1 → Whether Tested b → Whether (MailboxSound x link key message_link message_key number) b
   unfolding tasks_in messages_in
@@ -92,8 +84,8 @@ module _ (x : Mailbox) {link key message_link message_key : List ℕ} {number : 
           highest_in_range = rw kept (highest_range p.0);
           waiters = unless_empty first_waiter first_message.then_empty p.1.0;
         };
-        waiters_in_order = λ t. p.1.1.0 (rw (kept, waiters_go_by_priority x.attribute range) at t);
-        messages_in_order = λ t. p.1.1.1 (rw (kept, messages_go_by_priority x.attribute range) at t);
+        waiters_in_order = λ t. p.1.1.0 (rw kept at t);
+        messages_in_order = λ t. p.1.1.1 (rw kept at t);
       })
       (λ y.
       let range : x.attribute ≤ 3 = rw kept at y.row.attribute_in_range in
@@ -103,8 +95,8 @@ module _ (x : Mailbox) {link key message_link message_key : List ℕ} {number : 
         (
           waits,
           (
-            (λ t. y.waiters_in_order (rw (kept, waiters_go_by_priority x.attribute range) t)),
-            (λ t. y.messages_in_order (rw (kept, messages_go_by_priority x.attribute range) t)),
+            (λ t. y.waiters_in_order (rw kept t)),
+            (λ t. y.messages_in_order (rw kept t)),
           ),
         ),
       ))

@@ -2,36 +2,28 @@
 // the chains are sound.
 #![tactic(auto)]
 
-ghost use Rattle.std.specs.Prelude.{◌≡◌, [], T, length, get_or};
+ghost use Rattle.std.specs.Prelude.{[], T, get_or};
 ghost use Rattle.lists.specs.Lists.{InOrder};
 ghost use Rattle.lists.specs.Tests.{Whether};
-ghost use Rattle.chain.specs.Table.{key_cells, lists, keys_of};
+ghost use Rattle.chain.specs.Table.{lists, keys_of};
 ghost use Rattle.chain.specs.Changes.{HasChain};
 ghost use Rattle.parts.specs.Queues.{MayWait, QueueTestable, QueueSound};
 ghost use Rattle.parts.specs.Mailboxes.{MailboxNumbersSound, MailboxTestable, MailboxSound};
 
-use chain::{CELLS, KEY_CELLS};
+use chain::{Chains, Size};
 use model::PRIORITY_LIMIT;
-use parts::{MESSAGE_CHAINS, MESSAGES, Mailbox, Queue, RECEIVERS, TASK_CHAINS, TASKS, WAITERS};
+use parts::{MESSAGE_TABLE, Mailbox, Queue, RECEIVERS, TASK_TABLE, WAITERS};
 
 // A task with this priority comes after all others.
 const LOWEST: u8 = PRIORITY_LIMIT;
 
 // Whether a chain, where that is wanted, is in order with keys from 1 to `most`.
-fn in_order_if<'a>(
-    link: &'a [u8; CELLS],
-    key: &'a [u8; KEY_CELLS],
-    numbers: usize,
-    chains: usize,
-    chain: usize,
-    wanted: bool,
-    most: u8,
-) -> bool
-    requires { HasChain numbers chains chain link.now × (length key.now ≡ key_cells) }
-    ensures { Whether (T wanted → InOrder 1 most (keys_of key.now (get_or (lists numbers chains link.now) chain []))) result }
+fn in_order_if(table: &Chains, size: Size, chain: usize, wanted: bool, most: u8) -> bool
+    requires { HasChain size.numbers size.chains chain table.now.link }
+    ensures { Whether (T wanted → InOrder 1 most (keys_of table.now.key (get_or (lists size.numbers size.chains table.now.link) chain []))) result }
 {
     if wanted {
-        return chain_test::in_order(link, key, numbers, chains, chain, 1, most);
+        return chain_test::in_order(table, size, chain, 1, most);
     }
     true
 }
@@ -47,36 +39,22 @@ fn may_wait(count: u8, capacity: u8, sender: u8, receiver: u8) -> bool
 }
 
 // Whether the data queue of this number is sound, with those that wait at it. The table of waiting tasks is sound.
-pub fn queue_sound<'a>(
-    queue: Queue,
-    link: &'a [u8; CELLS],
-    key: &'a [u8; KEY_CELLS],
-    number: usize,
-) -> bool
-    requires { QueueTestable number link.now key.now }
-    ensures { Whether (QueueSound queue link.now key.now number) result }
+pub fn queue_sound(queue: Queue, waiting: &Chains, number: usize) -> bool
+    requires { QueueTestable number waiting.now.link waiting.now.key }
+    ensures { Whether (QueueSound queue waiting.now.link waiting.now.key number) result }
 {
-    let sender = chain::first(link, TASKS, TASK_CHAINS, number);
-    let receiver = chain::first(link, TASKS, TASK_CHAINS, RECEIVERS + number);
+    let sender = waiting.first(TASK_TABLE, number);
+    let receiver = waiting.first(TASK_TABLE, RECEIVERS + number);
     let attribute = queue.attribute;
-    let ring = queue.ring;
-    let count = ring.length();
+    let count = queue.ring.length();
     if queue.defined == 1 {
-        if !((attribute <= 1) & ring.in_range()) {
+        if !((attribute <= 1) & queue.ring.in_range()) {
             return false;
         }
-        if !may_wait(count, ring.capacity(), sender, receiver) {
+        if !may_wait(count, queue.ring.capacity(), sender, receiver) {
             return false;
         }
-        return in_order_if(
-            link,
-            key,
-            TASKS,
-            TASK_CHAINS,
-            number,
-            attribute == 1,
-            LOWEST,
-        );
+        return in_order_if(waiting, TASK_TABLE, number, attribute == 1, LOWEST);
     }
     (queue.defined == 0) & (count == 0) & (sender == 0) & (receiver == 0)
 }
@@ -92,20 +70,13 @@ fn mailbox_numbers_sound(attribute: u8, highest: u8) -> bool
 }
 
 // Whether the mailbox of this number is sound, with those that wait at it and its messages. Both tables are sound.
-pub fn mailbox_sound<'a>(
-    mailbox: Mailbox,
-    link: &'a [u8; CELLS],
-    key: &'a [u8; KEY_CELLS],
-    messages: &'a [u8; CELLS],
-    priorities: &'a [u8; KEY_CELLS],
-    number: usize,
-) -> bool
-    requires { MailboxTestable number link.now key.now messages.now priorities.now }
-    ensures { Whether (MailboxSound mailbox link.now key.now messages.now priorities.now number) result }
+pub fn mailbox_sound(mailbox: Mailbox, waiting: &Chains, messages: &Chains, number: usize) -> bool
+    requires { MailboxTestable number waiting.now.link waiting.now.key messages.now.link messages.now.key }
+    ensures { Whether (MailboxSound mailbox waiting.now.link waiting.now.key messages.now.link messages.now.key number) result }
 {
     let waiters = WAITERS + number;
-    let waiter = chain::first(link, TASKS, TASK_CHAINS, waiters);
-    let message = chain::first(messages, MESSAGES, MESSAGE_CHAINS, number);
+    let waiter = waiting.first(TASK_TABLE, waiters);
+    let message = messages.first(MESSAGE_TABLE, number);
     let attribute = mailbox.attribute;
     let highest = mailbox.highest;
     if mailbox.defined == 1 {
@@ -115,19 +86,12 @@ pub fn mailbox_sound<'a>(
         if !((waiter == 0) | (message == 0)) {
             return false;
         }
-        let by_priority = (attribute == 1) | (attribute == 3);
-        if !in_order_if(link, key, TASKS, TASK_CHAINS, waiters, by_priority, LOWEST) {
+        let by_priority = parts::ranks_waiters(attribute);
+        if !in_order_if(waiting, TASK_TABLE, waiters, by_priority, LOWEST) {
             return false;
         }
-        return in_order_if(
-            messages,
-            priorities,
-            MESSAGES,
-            MESSAGE_CHAINS,
-            number,
-            2 <= attribute,
-            highest,
-        );
+        let ranked = parts::ranks_messages(attribute);
+        return in_order_if(messages, MESSAGE_TABLE, number, ranked, highest);
     }
     (mailbox.defined == 0) & (waiter == 0) & (message == 0)
 }

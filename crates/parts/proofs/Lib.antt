@@ -1,5 +1,4 @@
 -- What the tests of parts, and the calls, share.
 pub mod Stops
 pub mod Empty
-pub mod Attributes
 pub mod Codes

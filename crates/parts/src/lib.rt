@@ -8,10 +8,12 @@ ghost use Rattle.model.specs.Waits.{wait_number, wait_object, held_word, wait_en
 ghost use Rattle.parts.specs.Chains.{wait_chain};
 ghost use Rattle.parts.specs.Tasks.{with_wait_ended, with_wait_started, read_code};
 
+use chain::Size;
 use model::{Code, End, MAILBOX_LIMIT, MESSAGE_LIMIT, QUEUE_LIMIT, TASK_LIMIT, Wait};
 use ring::Ring;
 
 // The table of waiting tasks, and the table of queued messages. specs/Chains.antt says whose each chain is.
+// The casts are those of constants, which call no function, as From's would be.
 pub const TASKS: usize = TASK_LIMIT as usize;
 
 pub const TASK_CHAINS: usize = WAITERS + MAILBOX_LIMIT as usize;
@@ -24,6 +26,16 @@ pub const WAITERS: usize = RECEIVERS + QUEUE_LIMIT as usize;
 pub const MESSAGES: usize = MESSAGE_LIMIT as usize;
 
 pub const MESSAGE_CHAINS: usize = MAILBOX_LIMIT as usize;
+
+pub const TASK_TABLE: Size = Size {
+    numbers: TASKS,
+    chains: TASK_CHAINS,
+};
+
+pub const MESSAGE_TABLE: Size = Size {
+    numbers: MESSAGES,
+    chains: MESSAGE_CHAINS,
+};
 
 // A table by number has a cell 0 before that of number 1.
 pub const TASK_CELLS: usize = TASKS + 1;
@@ -78,6 +90,8 @@ pub const TMOUT: u8 = 50;
 pub const DLT: u8 = 51;
 
 // The code with this number. A number that no code has reads as E_SYS, which no sound record stores for a task that is defined.
+// No impl of From<u8>: only crate model, whose type Code is, could have it, and that crate has no functions.
+#[tactic(auto, unfolding(crate::specs::Tasks::read_code))]
 pub fn read_code(number: u8) -> Code
     ensures { result ≡ read_code number }
 {
@@ -105,8 +119,7 @@ pub fn ended(task: Task, code: u8, word: u32) -> Task
         wait: Wait::NoWait,
         word,
         code,
-        defined: task.defined,
-        suspended: task.suspended,
+        ..task
     }
 }
 
@@ -118,8 +131,7 @@ pub fn started(task: Task, wait: Wait) -> Task
         wait,
         word: 0,
         code: OK,
-        defined: task.defined,
-        suspended: task.suspended,
+        ..task
     }
 }
 
@@ -129,13 +141,9 @@ pub fn wait_number(wait: Wait) -> u8
 {
     match wait {
         Wait::NoWait => 0,
-        Wait::Sending {
-            queue: _,
-            end: _,
-            word: _,
-        } => 1,
-        Wait::Receiving { queue: _, end: _ } => 2,
-        Wait::AtMailbox { mailbox: _, end: _ } => 3,
+        Wait::Sending { .. } => 1,
+        Wait::Receiving { .. } => 2,
+        Wait::AtMailbox { .. } => 3,
     }
 }
 
@@ -145,13 +153,8 @@ pub fn wait_object(wait: Wait) -> u8
 {
     match wait {
         Wait::NoWait => 0,
-        Wait::Sending {
-            queue,
-            end: _,
-            word: _,
-        } => queue,
-        Wait::Receiving { queue, end: _ } => queue,
-        Wait::AtMailbox { mailbox, end: _ } => mailbox,
+        Wait::Sending { queue, .. } | Wait::Receiving { queue, .. } => queue,
+        Wait::AtMailbox { mailbox, .. } => mailbox,
     }
 }
 
@@ -161,13 +164,8 @@ pub fn wait_end(wait: Wait) -> End
 {
     match wait {
         Wait::NoWait => End::Never,
-        Wait::Sending {
-            queue: _,
+        Wait::Sending { end, .. } | Wait::Receiving { end, .. } | Wait::AtMailbox { end, .. } =>
             end,
-            word: _,
-        } => end,
-        Wait::Receiving { queue: _, end } => end,
-        Wait::AtMailbox { mailbox: _, end } => end,
     }
 }
 
@@ -176,14 +174,8 @@ pub fn held_word(wait: Wait) -> u32
     ensures { result ≡ held_word wait }
 {
     match wait {
-        Wait::NoWait => 0,
-        Wait::Sending {
-            queue: _,
-            end: _,
-            word,
-        } => word,
-        Wait::Receiving { queue: _, end: _ } => 0,
-        Wait::AtMailbox { mailbox: _, end: _ } => 0,
+        Wait::Sending { word, .. } => word,
+        Wait::NoWait | Wait::Receiving { .. } | Wait::AtMailbox { .. } => 0,
     }
 }
 
@@ -193,26 +185,24 @@ pub fn chain_named(wait: Wait) -> usize
 {
     match wait {
         Wait::NoWait => 0,
-        Wait::Sending {
-            queue,
-            end: _,
-            word: _,
-        } => queue as usize,
-        Wait::Receiving { queue, end: _ } => RECEIVERS + queue as usize,
-        Wait::AtMailbox { mailbox, end: _ } => WAITERS + mailbox as usize,
+        Wait::Sending { queue, .. } => usize::from(queue),
+        Wait::Receiving { queue, .. } => RECEIVERS + usize::from(queue),
+        Wait::AtMailbox { mailbox, .. } => WAITERS + usize::from(mailbox),
     }
 }
 
 // Whether waiters go by task priority.
+#[tactic(auto, unfolding(lists::specs::Lists::one_of))]
 pub fn ranks_waiters(attribute: u8) -> bool
     ensures { result ≡ waiters_by_priority attribute }
 {
-    (attribute == 1) | (attribute == 3)
+    matches!(attribute, 1 | 3)
 }
 
-// Whether messages go by their priority.
+// Whether messages go by their priority. Crate errors has the same of a call's attribute, a word: of the two crates neither may use the other.
+#[tactic(auto, unfolding(lists::specs::Lists::one_of))]
 pub fn ranks_messages(attribute: u8) -> bool
     ensures { result ≡ messages_by_priority attribute }
 {
-    (attribute == 2) | (attribute == 3)
+    matches!(attribute, 2 | 3)
 }

@@ -57,9 +57,8 @@ impl State {
             defined: false,
             suspended: false,
         };
-        let ring = Ring::new(0);
         let queue = Queue {
-            ring,
+            ring: Ring::new(0),
             defined: 0,
             attribute: 0,
             spare: 0,
@@ -69,14 +68,12 @@ impl State {
             attribute: 0,
             highest: 0,
         };
-        let waiting = Chains::new();
-        let messages = Chains::new();
         State {
             counter: 0,
             tasks: [task; TASK_CELLS],
             queues: [queue; QUEUE_CELLS],
-            waiting,
-            messages,
+            waiting: Chains::new(),
+            messages: Chains::new(),
             mailboxes: [mailbox; MAILBOX_CELLS],
         }
     }

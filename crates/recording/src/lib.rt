@@ -1,12 +1,12 @@
 // A call with its answer in the 32 bytes that a unit records (document 02, item 3): what the bytes say.
 #![tactic(auto)]
 
-ghost use Rattle.std.specs.Prelude.{◌≡◌, ◌&&◌, ◌||◌, ◌+◌, ◌≤◌, eqb, ltb, length};
+ghost use Rattle.std.specs.Prelude.{◌≡◌, ◌||◌, ◌+◌, ◌≤◌, ltb, length};
 ghost use Rattle.model.specs.Sizes.{call_limit};
-ghost use Rattle.model.specs.Codes.{kind, code_or_place, values};
-ghost use Rattle.recording.specs.Recording.{half, word, signed, same_ℤ, recorded_call, spare_is_zero};
+ghost use Rattle.model.specs.Codes.{values};
+ghost use Rattle.recording.specs.Recording.{half, word, recorded_call, spare_is_zero};
 ghost use Rattle.recording.specs.Replay.{same_values};
-ghost use Rattle.recording.specs.Decoded.{recorded_answer, values_of, decoded};
+ghost use Rattle.recording.specs.Decoded.{recorded_answer, recorded_as, values_of, decoded};
 
 use model::{Answer, CALL_LIMIT, Call, Outcome};
 
@@ -24,42 +24,39 @@ const FINISHED: u8 = 0;
 
 const WAITS: u8 = 1;
 
+// An outcome in document 01's numbers.
+#[derive(Clone, Copy, PartialEq)]
+pub enum RecordedOutcome {
+    // The code; not each number is one.
+    Finished(i32),
+    // The place.
+    Waits(u32),
+}
+
 // The answer as it was recorded.
-#[derive(Clone, Copy)]
+#[derive(Clone, Copy, PartialEq)]
 pub struct Recorded {
-    // 0 finished, 1 waits.
-    pub kind: u8,
-    // The code, which is signed, or the place.
-    pub outcome: u32,
+    pub outcome: RecordedOutcome,
     pub a: u32,
     pub b: u32,
     pub c: u32,
 }
 
+// A record that is run.
 #[derive(Clone, Copy)]
-pub enum Decoded {
-    // The record isn't run: its call, its kind or one of its flags is unknown, or a spare byte isn't 0.
-    NotRun,
-    Run { call: Call, recorded: Recorded },
+pub struct Run {
+    pub call: Call,
+    pub recorded: Recorded,
 }
 
 // ── Numbers ──
 
-// A byte as a word.
-fn wide(byte: u8) -> u32
-    ensures value { result ≡ byte }
-    ensures upper_bound { result ≤ 255 }
-{
-    byte as u32
-}
-
 // Two bytes, the lower first.
 fn half_at(bytes: &[u8], at: usize) -> u32
     requires { at + 2 ≤ length bytes.now }
-    ensures value { result ≡ half bytes.now at }
-    ensures upper_bound { result ≤ 65535 }
+    ensures { result ≡ half bytes.now at }
 {
-    wide(bytes[at]) + 256 * wide(bytes[at + 1])
+    u32::from(u16::from_le_bytes([bytes[at], bytes[at + 1]]))
 }
 
 // Four bytes, the lowest first.
@@ -67,17 +64,7 @@ pub fn word_at(bytes: &[u8], at: usize) -> u32
     requires { at + 4 ≤ length bytes.now }
     ensures { result ≡ word bytes.now at }
 {
-    half_at(bytes, at) + 65536 * half_at(bytes, at + 2)
-}
-
-// A word as a signed number, in two's complement: a word that is n less than the largest one is -1 - n, which `!` gives.
-fn signed(word: u32) -> i32
-    ensures { result ≡ signed word }
-{
-    if word < 2147483648 {
-        return word as i32;
-    }
-    !((4294967295 - word) as i32)
+    u32::from_le_bytes([bytes[at], bytes[at + 1], bytes[at + 2], bytes[at + 3]])
 }
 
 // ── A record ──
@@ -91,25 +78,30 @@ pub fn call_of(bytes: &[u8]) -> Call
     Call {
         number: bytes[0],
         caller: bytes[1],
-        locked: (flags == LOCKED) | (flags == BOTH),
-        disabled: (flags == DISABLED) | (flags == BOTH),
+        locked: matches!(flags, LOCKED | BOTH),
+        disabled: matches!(flags, DISABLED | BOTH),
         object: bytes[3],
         value: word_at(bytes, 4),
-        tmout: signed(word_at(bytes, 8)),
+        tmout: word_at(bytes, 8).cast_signed(),
         attribute: word_at(bytes, 12),
     }
 }
 
-// Bytes 16 to 30.
+// Bytes 16 to 30, where the kind is known.
 fn recorded_answer(bytes: &[u8]) -> Recorded
     requires { length bytes.now ≡ 32 }
     ensures { result ≡ recorded_answer bytes.now }
 {
+    let said = word_at(bytes, 20);
+    let outcome = if bytes[16] == FINISHED {
+        RecordedOutcome::Finished(said.cast_signed())
+    } else {
+        RecordedOutcome::Waits(said)
+    };
     Recorded {
-        kind: bytes[16],
-        outcome: word_at(bytes, 20),
+        outcome,
         a: word_at(bytes, 24),
-        b: wide(bytes[28]),
+        b: u32::from(bytes[28]),
         c: half_at(bytes, 29),
     }
 }
@@ -129,29 +121,35 @@ fn is_unknown(number: u8, kind: u8, flags: u8) -> bool
     (CALL_LIMIT < number) | (WAITS < kind) | (BOTH < flags)
 }
 
-pub fn decode(bytes: &[u8]) -> Decoded
+// The call and the answer of a record; none of one that isn't run: its call, its kind or one of its flags is unknown, or a spare byte isn't 0.
+pub fn decode(bytes: &[u8]) -> Option<Run>
     requires { length bytes.now ≡ 32 }
     ensures { result ≡ decoded bytes.now }
 {
     let unknown = is_unknown(bytes[0], bytes[16], bytes[2]);
     if unknown | !spare_is_zero(bytes) {
-        return Decoded::NotRun;
+        return None;
     }
-    let call = call_of(bytes);
-    let recorded = recorded_answer(bytes);
-    Decoded::Run { call, recorded }
+    Some(Run {
+        call: call_of(bytes),
+        recorded: recorded_answer(bytes),
+    })
 }
 
-// Whether the recorded kind, and code or place, are this outcome's.
-fn same_outcome(recorded: Recorded, outcome: Outcome) -> bool
-    ensures { result ≡ (eqb recorded.kind (kind outcome) && same_ℤ (values_of recorded).code_or_place (code_or_place outcome)) }
-{
-    let kind = recorded.kind;
-    let said = recorded.outcome;
-    match outcome {
-        Outcome::Finished(code) => (kind == FINISHED)
-            & (signed(said) == host_calls::number_of(code)),
-        Outcome::Waits(place) => (kind == WAITS) & (said == place),
+impl From<Answer> for Recorded {
+    ghost from_gives = { λ answer r. r ≡ recorded_as answer };
+
+    fn from(answer: Answer) -> Recorded {
+        let outcome = match answer.outcome {
+            Outcome::Finished(code) => RecordedOutcome::Finished(host_calls::number_of(code)),
+            Outcome::Waits(place) => RecordedOutcome::Waits(place),
+        };
+        Recorded {
+            outcome,
+            a: answer.a,
+            b: answer.b,
+            c: answer.c,
+        }
     }
 }
 
@@ -159,9 +157,5 @@ fn same_outcome(recorded: Recorded, outcome: Outcome) -> bool
 pub fn same_answer(recorded: Recorded, answer: Answer) -> bool
     ensures { result ≡ same_values (values_of recorded) (values answer) }
 {
-    let outcome = answer.outcome;
-    same_outcome(recorded, outcome)
-        & (recorded.a == answer.a)
-        & (recorded.b == answer.b)
-        & (recorded.c == answer.c)
+    recorded == Recorded::from(answer)
 }

@@ -1,13 +1,17 @@
 -- One turn of the replay is one record of the definition, and the turns make up the block.
 use mathlib.Core.Path.{◌≡◌, refl, sym, ◌∙◌, ap, ap₂, subst}
-use mathlib.Core.Bool.{Bool, true, false, not, ◌&&◌, ◌||◌}
-use mathlib.Core.List.{List, [], ◌++◌, append_assoc}
-use Prim.Native.Nat.{ℕ, suc, ◌+◌, ◌-◌, ◌/◌, ◌<◌, ◌≤◌}
+use mathlib.Core.Bool.{Bool, true, false, not, ◌||◌}
+use mathlib.Core.List.{List, [], ◌∷◌, ◌++◌, append_assoc}
+use Prim.Native.Nat.{ℕ, zero, suc, ◌+◌, ◌-◌, ◌*◌, ◌/◌, ◌%◌, ◌<◌, ◌≤◌}
 use native.Mathlib.Omega.{arith}
 use lib.Dec.{T}
-use lib.ListN.{length, take, drop, length-append, length-take, length-drop, take-append-drop}
-use lib.Seq.{take-add, take_all}
+use lib.ListN.{length, take, drop, get_or, length-append, length-take, length-drop, take-append-drop}
+use lib.Seq.{take-suc, take_all}
 use borrow.Author.Tests.{ltb-false}
+use Rattle.std.specs.Prelude.{Option, Some, None, IsSomeAnd}
+use Rattle.std.specs.Simd.{first_chunks}
+use Rattle.rows.specs.Runs.{end, answers}
+use Rattle.rows.proofs.Runs.{end_append, answers_append}
 use Rattle.model.specs.Sizes.{call_limit}
 use Rattle.model.specs.Rows.{Model}
 use Rattle.model.specs.Codes.{values}
@@ -20,18 +24,18 @@ use Rattle.record.specs.declared.Step.{Step}
 use Rattle.record.specs.Meaning.{abs}
 use Rattle.record.specs.Sound.{Sound}
 use Rattle.record.specs.Step.{Stepped}
-use Rattle.kernel.specs.Steps.{Applied}
+use Rattle.kernel.specs.Steps.{Judged, Applied}
 use Rattle.kernel.proofs.Outcomes.{stepped}
 use Rattle.kernel.proofs.Arms.{nothing_done}
 use Rattle.recording.specs.Recording.{recorded_call, spare_is_zero, not_run}
-use Rattle.recording.specs.Replay.{same_values, compared, play}
-use Rattle.recording.specs.Blocks.{Numbers, counted, Possible, Replaying, fed}
+use Rattle.recording.specs.Replay.{first_records, whole_records, records_of, rest_of, same_values, compared, play}
+use Rattle.recording.specs.Blocks.{Numbers, counted, all_counted, Possible, Replaying, fed}
 use Rattle.recording.specs.Decoded.{values_of}
-use Rattle.recording.proofs.Blocks.{cut_anywhere, fed_less, fed_one, records_fed, counted_possible}
+use Rattle.recording.proofs.Blocks.{cut_anywhere, counted_append, fed_less, fed_one, records_fed, counted_possible}
 use Rattle.replays.specs.declared.Reading.{Reading}
 use Rattle.replays.specs.declared.Replay.{Replay}
 use Rattle.replays.specs.declared.Tally.{Tally}
-use Rattle.replays.specs.Replays.{numbers_of, part_of, meaning, SoundReplay, ReadFrom, AfterBytes, count_limit, records_with}
+use Rattle.replays.specs.Replays.{numbers_of, part_of, as_if_whole, meaning, SoundReplay, Read, ReadFrom, AfterBytes, count_limit, records_with}
 
 -- ── One record ──
 
@@ -52,117 +56,107 @@ known bytes e =
     let call = recorded_call bytes in
     ltb-false call_limit call.number (no_left _ _ (no_left _ _ (no_left _ (not (spare_is_zero bytes)) e)))
 
-abbrev Compared : Reading → Bool → Answer → Type 0
-Compared x differs answer = differs ≡ not (x.runs && same_values (values_of x.recorded) (values answer))
+is_read : Option Reading → Bool
+is_read None = false
+is_read (Some x) = true
 
-module _ {s : State} {bytes : List ℕ} {x : Reading} (S : Sound s) (h : ReadFrom s bytes x) {differs : Bool} where
-  played_run : {r : Step} → not_run bytes ≡ false → Stepped s (recorded_call bytes) r → Compared x differs r.answer → Played s bytes r.state differs
-  unfolding play compared
-  played_run {r} e t d =
-      let (runs, judged, recorded) = h.run (rw e tt) in
-      let follows = t.sound (known bytes e) S in
-      record {
-        state_is = rw e follows.meaning_is;
-        differs_is =
-            rw e (d ∙ ap (λ b. not (b && same_values (values_of x.recorded) (values r.answer))) runs
-            ∙ ap₂ (λ v a. not (same_values v (values a))) recorded follows.answer_is);
-        sound = follows.sound;
-      }
-
-  played_not_run : (answer : Answer) → not_run bytes ≡ true → Compared x differs answer → Played s bytes s differs
+module _ {s : State} {bytes : List ℕ} {found : Option Reading} (S : Sound s) (h : ReadFrom s bytes found) where
+  -- A record that isn't run.
+  pub left_out : found ≡ None → Played s bytes s true
   unfolding play
-  played_not_run answer e d = record {
-    state_is = rw e refl;
-    differs_is = rw e (d ∙ ap (λ b. not (b && same_values (values_of x.recorded) (values answer))) (h.left_out (rw e tt)).0);
-    sound = S;
-  }
-
-  -- A record that changes nothing, one that isn't run among them.
-  pub stays : not x.changes ≡ true → (answer : Answer) → (T (not (changed_by x.decision)) → (m : Model) → answer ≡ (after m x.decision).answer)
-      → Compared x differs answer → Played s bytes s differs
-  stays n answer said d = go (not_run bytes) refl
+  left_out none = go (not_run bytes) refl
     where
-      still : T (not (changed_by x.decision))
-      still = subst (λ b. T (not b)) h.changes_is (rw n tt)
+      go : (b : Bool) → not_run bytes ≡ b → Played s bytes s true
+      go true e = record { state_is = rw e refl; differs_is = rw e refl; sound = S }
+      go false e = absurd (subst (λ o. IsSomeAnd o (Read s bytes)) none (h.run (rw e tt)))
 
-      go : (b : Bool) → not_run bytes ≡ b → Played s bytes s differs
-      go true e = played_not_run answer e d
-      go false e =
-          let judged = (h.run (rw e tt)).1 in
-          played_run {r = record { state = s; answer = answer }} e (stepped (nothing_done x.decision still (ap (λ a. record { state = s; answer = a }) (said still (abs s)))) judged) d
+  module _ {x : Reading} (some : found ≡ Some x) where
+    played : {r : Step} → (Judged s (recorded_call bytes) x.decision → Stepped s (recorded_call bytes) r)
+        → Played s bytes r.state (not (same_values (values_of x.recorded) (values r.answer)))
+    unfolding play compared is_read
+    played {r} does = go (not_run bytes) refl
+      where
+        go : (b : Bool) → not_run bytes ≡ b → Played s bytes r.state (not (same_values (values_of x.recorded) (values r.answer)))
+        go true e = absurd (subst T (ap is_read (sym some ∙ h.left_out (rw e tt))) tt)
+        go false e =
+            let read : Read s bytes x = subst (λ o. IsSomeAnd o (Read s bytes)) some (h.run (rw e tt)) in
+            let follows = (does read.judged).sound (known bytes e) S in
+            record {
+              state_is = rw e follows.meaning_is;
+              differs_is = rw e (ap₂ (λ v a. not (same_values v (values a))) read.recorded_is follows.answer_is);
+              sound = follows.sound;
+            }
 
-  pub moves : not x.changes ≡ false → {r : Step} → Applied s x.decision r → Compared x differs r.answer → Played s bytes r.state differs
-  moves n {r} a d = go (not_run bytes) refl
-    where
-      go : (b : Bool) → not_run bytes ≡ b → Played s bytes r.state differs
-      go true e = absurd (subst T (sym (ap not (h.left_out (rw e tt)).1) ∙ n) tt)
-      go false e = played_run e (stepped a (h.run (rw e tt)).1) d
+    -- One that changes nothing.
+    pub stays : changed_by x.decision ≡ false → {answer : Answer} → (T (not (changed_by x.decision)) → (m : Model) → answer ≡ (after m x.decision).answer)
+        → Played s bytes s (not (same_values (values_of x.recorded) (values answer)))
+    stays n {answer} said =
+        let still : T (not (changed_by x.decision)) = rw n tt in
+        played {r = record { state = s; answer = answer }} (stepped (nothing_done x.decision still (ap (λ a. record { state = s; answer = a }) (said still (abs s)))))
+
+    pub moves : {r : Step} → Applied s x.decision r → Played s bytes r.state (not (same_values (values_of x.recorded) (values r.answer)))
+    moves a = played (stepped a)
 
 -- ── The turns ──
 
--- How far the whole records of the bytes have been played, from x on: `at` bytes of them.
-pub record Going (x : Replaying) (bytes : List ℕ) (state : State) (tally : Tally) (at : ℕ) : Type 0 where
-  pub within : at ≤ length bytes
-  pub so_far : record { state = abs state; numbers = numbers_of tally; part = [] } ≡ fed x (take at bytes)
+-- How far the records have been played, from x on: i of them.
+pub record Going (x : Replaying) (records : List (List ℕ)) (state : State) (tally : Tally) (i : ℕ) : Type 0 where
+  pub state_is : abs state ≡ end play x.state (take i records)
+  pub numbers_are : numbers_of tally ≡ all_counted x.numbers (answers play x.state (take i records))
   pub sound : Sound state
   pub possible : Possible (numbers_of tally)
-  pub room : tally.records + (length bytes - at) / 32 ≤ count_limit
+  pub room : tally.records + (length records - i) ≤ count_limit
 
-abbrev pub behind_no_part : State → Tally → Replaying
-behind_no_part s t = record { state = abs s; numbers = numbers_of t; part = [] }
-
-pub starts : {bytes : List ℕ} {s : State} {t : Tally} → Sound s → Possible (numbers_of t) → t.records + length bytes / 32 ≤ count_limit → Going (behind_no_part s t) bytes s t 0
-starts {bytes} {s} {t} S p room = record {
-  within = omega arith;
-  so_far = sym (fed_less (behind_no_part s t) [] (omega arith));
-  sound = S;
-  possible = p;
-  room = omega arith;
-}
+pub starts : {records : List (List ℕ)} {r : Replay} → SoundReplay r → r.tally.records + length records ≤ count_limit → Going (as_if_whole r) records r.state r.tally 0
+unfolding end answers all_counted
+starts {records} {r} S room = record { state_is = refl; numbers_are = refl; sound = S.sound; possible = S.possible; room = omega arith }
 
 records_counted : (t next : Tally) (differs : Bool) → numbers_of next ≡ counted (numbers_of t) differs → next.records ≡ suc t.records
 unfolding counted
 records_counted t next differs e = ap (λ (n : Numbers). n.records) e
 
-pub turn : {x : Replaying} {bytes : List ℕ} {s left : State} {t next : Tally} {at : ℕ} {differs : Bool} → Going x bytes s t at → 32 ≤ length bytes - at
-    → Played s (take (at + 32 - at) (drop at bytes)) left differs → numbers_of next ≡ counted (numbers_of t) differs → Going x bytes left next (at + 32)
-turn {x} {bytes} {s} {left} {t} {next} {at} {differs} g enough p e =
-    let r = take (at + 32 - at) (drop at bytes) in
-    let same : at + 32 - at ≡ 32 = omega arith in
-    let size : length r ≡ 32 = let a = length-take (at + 32 - at) (drop at bytes) in let b = length-drop at bytes in omega arith in
-    let one = fed_one (abs s) (numbers_of t) r size in
-    let numbers_are = e ∙ ap (counted (numbers_of t)) p.differs_is in
+pub turn : {x : Replaying} {records : List (List ℕ)} {s left : State} {t next : Tally} {i : ℕ} {differs : Bool} → Going x records s t i → i < length records
+    → Played s (get_or records i []) left differs → numbers_of next ≡ counted (numbers_of t) differs → Going x records left next (i + 1)
+unfolding end answers all_counted
+turn {x} {records} {s} {left} {t} {next} {i} {differs} g more p e =
+    let r = get_or records i [] in
+    let so_far = take i records in
+    let later : take (i + 1) records ≡ so_far ++ (r ∷ []) = ap (λ n. take n records) (let one : i + 1 ≡ suc i = omega arith in one) ∙ take-suc records i [] more in
+    let left_is = p.state_is ∙ ap (λ m. (play m r).state) g.state_is in
+    let differs_is = p.differs_is ∙ ap (λ m. (play m r).answer) g.state_is in
     record {
-      within = let w = g.within in omega arith;
-      so_far =
-          (λ i. record { state = p.state_is i; numbers = numbers_are i; part = [] }) ∙ sym one ∙ ap (λ y. fed y r) g.so_far
-          ∙ cut_anywhere x (take at bytes) r ∙ ap (λ n. fed x (take at bytes ++ take n (drop at bytes))) same ∙ ap (fed x) (sym (take-add at 32 bytes));
+      state_is = left_is ∙ sym (end_append play x.state so_far (r ∷ [])) ∙ ap (end play x.state) (sym later);
+      numbers_are =
+          e ∙ ap₂ counted g.numbers_are differs_is ∙ sym (counted_append x.numbers (answers play x.state so_far) (answers play (end play x.state so_far) (r ∷ [])))
+          ∙ ap (all_counted x.numbers) (sym (answers_append play x.state so_far (r ∷ [])) ∙ ap (answers play x.state) (sym later));
       sound = p.sound;
       possible = subst Possible (sym e) (counted_possible differs g.possible);
       room = let one_more = records_counted t next differs e in let space = g.room in omega arith;
     }
 
-pub ends : {x : Replaying} {bytes : List ℕ} {r : Replay} {at : ℕ} → Going x bytes r.state r.tally at → length bytes - at < 32
-    → r.length ≡ length bytes - at → length r.part ≡ 32 → take r.length r.part ≡ drop at bytes → AfterBytes x bytes r
-ends {x} {bytes} {r} {at} g few n size e =
-    let whole = take-append-drop at bytes in
-    let less : length (drop at bytes) < 32 = let a = length-drop at bytes in omega arith in
+-- The chunks of a block are its records, and what is behind them is its rest.
+chunks_are : (n : ℕ) (bytes : List ℕ) → first_chunks 32 n bytes ≡ first_records n bytes
+unfolding first_records
+chunks_are zero bytes = refl
+chunks_are (suc n) bytes = ap (λ l. take 32 bytes ∷ l) (chunks_are n (drop 32 bytes))
+
+pub ends : {x : Replaying} {bytes rest : List ℕ} {records : List (List ℕ)} {r : Replay} {i : ℕ} → x.part ≡ [] → Going x records r.state r.tally i → length records ≤ i
+    → records ≡ first_chunks 32 (length bytes / 32) bytes → rest ≡ drop (length bytes / 32 * 32) bytes → length rest ≡ length bytes % 32
+    → r.length ≡ length rest → length r.part ≡ 32 → take r.length r.part ≡ rest → AfterBytes x bytes r
+unfolding fed records_of whole_records rest_of
+ends {x} {bytes} {rest} {records} {r} {i} none g all chunks behind few n size e =
+    let block = ap (λ p. p ++ bytes) none in
+    let played : take i records ≡ records_of (x.part ++ bytes) = take_all i records all ∙ chunks ∙ chunks_are (length bytes / 32) bytes ∙ ap records_of (sym block) in
+    let places : length bytes / 32 * 32 ≡ 32 * (length bytes / 32) = omega arith in
+    let kept : take r.length r.part ≡ rest_of (x.part ++ bytes) = e ∙ behind ∙ ap (λ k. drop k bytes) places ∙ ap rest_of (sym block) in
+    let state_is = g.state_is ∙ ap (end play x.state) played in
+    let numbers_are = g.numbers_are ∙ ap (λ l. all_counted x.numbers (answers play x.state l)) played in
     record {
-      meaning_is =
-          (λ i. record { state = abs r.state; numbers = numbers_of r.tally; part = e i })
-          ∙ sym (fed_less (behind_no_part r.state r.tally) (drop at bytes) less)
-          ∙ ap (λ y. fed y (drop at bytes)) g.so_far ∙ cut_anywhere x (take at bytes) (drop at bytes) ∙ ap (fed x) whole;
+      meaning_is = λ i. record { state = state_is i; numbers = numbers_are i; part = kept i };
       sound = record { sound = g.sound; part_within = omega arith; part_size = size; possible = g.possible };
     }
 
 -- ── A block behind a part ──
-
-abbrev pub as_if_whole : Replay → Replaying
-as_if_whole s = behind_no_part s.state s.tally
-
--- There is no part.
-pub no_part : (s : Replay) {r : Replay} {block : List ℕ} → s.length ≡ 0 → AfterBytes (as_if_whole s) block r → AfterBytes (meaning s) block r
-no_part s {r} {block} e f = subst (λ (part : List ℕ). AfterBytes (record { state = abs s.state; numbers = numbers_of s.tally; part = part }) block r) (ap (λ n. take n s.part) (sym e)) f
 
 -- It makes no record whole.
 pub short_block : {s : Replay} {block part : List ℕ} → SoundReplay s → s.length + length block < 32 → length part ≡ 32

@@ -1,8 +1,8 @@
 -- What the replay of a recording promises: document 02, items 3 and 5, on the state that it keeps.
-use Rattle.std.specs.Prelude.{◌≡◌, true, false, not, List, ℕ, ◌<◌, ◌≤◌, T, length, take}
+use Rattle.std.specs.Prelude.{◌≡◌, not, List, [], ℕ, ◌<◌, ◌≤◌, T, Option, None, IsSomeAnd, Result, Ok, Err, ◌++◌, codes, length, take}
+use Rattle.std.specs.Fmt.{decimal}
 use Rattle.model.specs.declared.Code.{Code}
 use Rattle.model.specs.declared.Code.TheVariants.{Ok as E_OK, Par as E_PAR, Sys as E_SYS}
-use Rattle.decide.specs.Touches.{changed_by}
 use Rattle.record.specs.declared.State.{State}
 use Rattle.record.specs.Meaning.{abs}
 use Rattle.record.specs.Sound.{Sound}
@@ -11,8 +11,7 @@ use Rattle.recording.specs.Recording.{recorded_call, recorded_values, not_run}
 use Rattle.recording.specs.Replay.{Line}
 use Rattle.recording.specs.Blocks.{Numbers, Possible, Replaying, fed, line_of}
 use Rattle.recording.specs.Decoded.{values_of}
-use Rattle.replays.specs.declared.Ended.{Ended}
-use Rattle.replays.specs.declared.Fed.{Fed}
+use Rattle.replays.specs.declared.Line.{Line as Line_given}
 use Rattle.replays.specs.declared.Reading.{Reading}
 use Rattle.replays.specs.declared.Replay.{Replay}
 use Rattle.replays.specs.declared.Tally.{Tally}
@@ -31,6 +30,10 @@ part_of r = take r.length r.part
 abbrev pub meaning : Replay → Replaying
 meaning r = record { state = abs r.state; numbers = numbers_of r.tally; part = part_of r }
 
+-- The same without the part.
+abbrev pub as_if_whole : Replay → Replaying
+as_if_whole r = record { state = abs r.state; numbers = numbers_of r.tally; part = [] }
+
 -- The replay states that item 5 lets through are sound (our own term, for a replay state): nothing more is asked of one, and nothing less.
 pub record SoundReplay (r : Replay) : Type 0 where
   -- "an unsound kernel state" is refused.
@@ -44,12 +47,16 @@ pub record SoundReplay (r : Replay) : Type 0 where
 
 -- ── A record ──
 
--- What a record comes to on a sound state. One that isn't run changes nothing.
-pub record ReadFrom (s : State) (bytes : List ℕ) (x : Reading) : Type 0 where
+-- What a record that is run comes to on a sound state.
+pub record Read (s : State) (bytes : List ℕ) (x : Reading) : Type 0 where
   pub appliable : Appliable s x.decision
-  pub changes_is : x.changes ≡ changed_by x.decision
-  pub left_out : T (not_run bytes) → (x.runs ≡ false) × (x.changes ≡ false)
-  pub run : T (not (not_run bytes)) → (x.runs ≡ true) × Judged s (recorded_call bytes) x.decision × (values_of x.recorded ≡ recorded_values bytes)
+  pub judged : Judged s (recorded_call bytes) x.decision
+  pub recorded_is : values_of x.recorded ≡ recorded_values bytes
+
+-- Of one that isn't run there is nothing to do and nothing to compare.
+pub record ReadFrom (s : State) (bytes : List ℕ) (x : Option Reading) : Type 0 where
+  pub left_out : T (not_run bytes) → x ≡ None
+  pub run : T (not (not_run bytes)) → IsSomeAnd x (Read s bytes)
 
 -- ── Blocks ──
 
@@ -66,8 +73,8 @@ count_limit = 18446744073709551615
 abbrev pub records_with : Replay → List ℕ → ℕ
 records_with s block = (fed (meaning s) block).numbers.records
 
--- What a block does to whatever replay state, by the first of three cases. X holds a replay, and a code is told as a K: here they are `Replay` and `Code`, for
--- hosts their record and document 01's numbers.
+-- What a block does to whatever replay state, by the first of three cases. X holds a replay, and a code is told as a K: here they are `Replay` and a `Result`,
+-- for hosts their record and document 01's numbers.
 pub record TakesBlockAs {X K : Type 0} (held : X → Replay) (told : Code → K) (s : X) (block : List ℕ) (after : X) (code : K) : Type 0 where
   -- "gets E_SYS", and changes nothing.
   pub unsound : (SoundReplay (held s) → ⊥) → (code ≡ told E_SYS) × (after ≡ s)
@@ -75,8 +82,13 @@ pub record TakesBlockAs {X K : Type 0} (held : X → Replay) (told : Code → K)
   pub too_many : SoundReplay (held s) → count_limit < records_with (held s) block → (code ≡ told E_PAR) × (after ≡ s)
   pub otherwise : SoundReplay (held s) → records_with (held s) block ≤ count_limit → (code ≡ told E_OK) × AfterBytes (meaning (held s)) block (held after)
 
-abbrev pub TakesBlock : Replay → List ℕ → Fed → Type 0
-TakesBlock s block r = TakesBlockAs (λ x. x) (λ code. code) s block r.replay r.code
+-- A code as a `Result`: E_OK is no error.
+abbrev pub as_result : Code → Result (Unit {0}) Code
+as_result E_OK = Ok tt
+as_result code = Err code
+
+abbrev pub TakesBlock : Replay → List ℕ → Replay → Result (Unit {0}) Code → Type 0
+TakesBlock s block after r = TakesBlockAs (λ x. x) as_result s block after r
 
 -- ── The end ──
 
@@ -88,8 +100,20 @@ pub record EndsAs {X K : Type 0} (held : X → Replay) (told : Code → K) (s : 
   pub unsound : (SoundReplay (held s) → ⊥) → (code ≡ told E_SYS) × (l ≡ four_zeros)
   pub otherwise : SoundReplay (held s) → (code ≡ told E_OK) × (l ≡ line_of (meaning (held s)))
 
-abbrev pub line_in : Ended → Line
-line_in r = record { records = r.tally.records; differ = r.tally.differ; first = r.tally.first; tail = r.tail }
+-- A refusal has no line: it stands for one of four zeros.
+abbrev pub line_in : Result Line_given Code → Line
+line_in (Ok l) = record { records = l.tally.records; differ = l.tally.differ; first = l.tally.first; tail = l.tail }
+line_in (Err code) = four_zeros
 
-abbrev pub Ends : Replay → Ended → Type 0
-Ends s r = EndsAs (λ x. x) (λ code. code) s r.code (line_in r)
+abbrev pub end_code : Result Line_given Code → Result (Unit {0}) Code
+end_code (Ok l) = Ok tt
+end_code (Err code) = Err code
+
+abbrev pub Ends : Replay → Result Line_given Code → Type 0
+Ends s r = EndsAs (λ x. x) as_result s (end_code r) (line_in r)
+
+-- "records N differ N first N tail N".
+abbrev pub text : Line_given → List ℕ
+text l =
+    codes "records " ++ decimal l.tally.records ++ codes " differ " ++ decimal l.tally.differ ++ codes " first " ++ decimal l.tally.first ++ codes " tail "
+    ++ decimal l.tail

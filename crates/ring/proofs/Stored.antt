@@ -1,5 +1,5 @@
 -- The words that a ring stores, before and after a method: by the laws of words, with what a place of the array holds for what is read at a place.
-use mathlib.Core.Path.{◌≡◌, ◌∙◌}
+use mathlib.Core.Path.{◌≡◌}
 use mathlib.Core.List.{[]}
 use Prim.Native.Nat.{ℕ, ◌+◌, ◌<◌}
 use native.Mathlib.Numerals.{add-one}
@@ -8,7 +8,7 @@ use borrow.Author.Rules.{rules}
 use lib.ListN.{length, get_or, set}
 use lib.Seq.{get_or-set_same, get_or-set_other}
 use Rattle.lists.specs.Lists.{ascending}
-use Rattle.ring.specs.Ring.{places, further, words_from, stored, InRange, Pushed, OldestPopped, Replaced}
+use Rattle.ring.specs.Ring.{places, further, words_from, stored, InRange, Pushed, OldestPopped}
 use Rattle.ring.specs.declared.Ring.{Ring}
 use Rattle.ring.proofs.Places.{further_is_place}
 use Rattle.ring.proofs.Words.{length_words, words_agree, words_newest, words_oldest}
@@ -55,12 +55,4 @@ popped {s} {r} within oldest same_words next_head one_less same_capacity =
     record {
       words_were = rw (same_words, next_head, oldest, ← one_less, add-one) (words_oldest _ places s.head r.count within.head_is_place);
       kept = search rules;
-    }
-
--- One word taken out, and another stored.
-pub replaced : {s r t : Ring} {oldest word : ℕ} → OldestPopped s oldest r → Pushed r word t → Replaced s word t
-replaced p q =
-    record {
-      words_are = rw p.words_were q.words_are;
-      kept = record { in_range = q.kept.in_range; capacity_is = q.kept.capacity_is ∙ p.kept.capacity_is };
     }

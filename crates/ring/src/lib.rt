@@ -1,5 +1,5 @@
-// A store of words, as a ring (document 01: each queue's control record holds its own ring of 16 words). Every method is by value and is
-// promised on the list of stored words, oldest first.
+// A store of words, as a ring (document 01: each queue's control record holds its own ring of 16 words). Every method is promised on the
+// list of stored words, oldest first.
 #![tactic(auto)]
 
 ghost use Rattle.std.specs.Prelude.{◌≡◌, ◌<◌, ◌≤◌, length};
@@ -20,13 +20,6 @@ pub struct Ring {
     pub capacity: u8,
     // Says nothing. It has a name so that no byte of a record that a host lends is left to chance; a new ring has 0 here.
     pub spare: u8,
-}
-
-// The oldest word, and the ring without it.
-#[derive(Clone, Copy)]
-pub struct Taken {
-    pub word: u32,
-    pub ring: Ring,
 }
 
 // ── Places, found without a division (document 02, item 4) ──
@@ -55,7 +48,7 @@ fn place_further(place: u8, n: u8, size: u8) -> u8
     n - to_end
 }
 
-// ── A ring by value ──
+// ── A ring ──
 
 impl Ring {
     // An empty ring.
@@ -73,57 +66,56 @@ impl Ring {
     }
 
     // Whether the ring's numbers are in range.
-    pub fn in_range(self) -> bool
-        ensures { Whether (InRange self) result }
+    pub fn in_range(&self) -> bool
+        ensures { Whether (InRange self.now) result }
     {
         (self.head < PLACE_LIMIT) & (self.count <= self.capacity) & (self.capacity <= PLACE_LIMIT)
     }
 
     // How many words are stored.
-    pub fn length(self) -> u8
-        ensures { result ≡ length (stored self) }
+    pub fn length(&self) -> u8
+        ensures { result ≡ length (stored self.now) }
     {
         self.count
     }
 
     // How many words may be stored.
-    pub fn capacity(self) -> u8
-        ensures { result ≡ self.capacity }
+    pub fn capacity(&self) -> u8
+        ensures { result ≡ self.now.capacity }
     {
         self.capacity
     }
 
     // Stores a word behind the newest. There is room for it.
-    pub fn push(mut self, word: u32) -> Ring
-        requires { InRange self × (length (stored self) < self.capacity) }
-        ensures { Pushed self word result }
+    pub fn push(&mut self, word: u32)
+        requires { InRange self.old × (length (stored self.old) < self.old.capacity) }
+        ensures { Pushed self.old word self.new }
     {
         let count = self.count;
         let at = place_further(self.head, count, PLACE_LIMIT) as usize;
         self.words[at] = word;
         self.count = count + 1;
-        self
     }
 
     // Takes the oldest word out. There is one.
-    pub fn pop(mut self) -> Taken
-        requires { InRange self × (0 < length (stored self)) }
-        ensures { OldestPopped self result.word result.ring }
+    pub fn pop(&mut self) -> u32
+        requires { InRange self.old × (0 < length (stored self.old)) }
+        ensures { OldestPopped self.old result self.new }
     {
         let head = self.head;
         let at = head as usize;
         let word = self.words[at];
         self.head = next_place(head, PLACE_LIMIT);
-        self.count = self.count - 1;
-        Taken { word, ring: self }
+        self.count -= 1;
+        word
     }
 
     // Drops the oldest word and stores another behind the newest. There is one to drop.
-    pub fn drop_oldest_and_push(self, word: u32) -> Ring
-        requires { InRange self × (0 < length (stored self)) }
-        ensures { Replaced self word result }
+    pub fn drop_oldest_and_push(&mut self, word: u32)
+        requires { InRange self.old × (0 < length (stored self.old)) }
+        ensures { Replaced self.old word self.new }
     {
-        let taken = self.pop();
-        taken.ring.push(word)
+        let _oldest = self.pop();
+        self.push(word);
     }
 }

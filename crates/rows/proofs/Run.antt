@@ -10,14 +10,6 @@ module _ {Key : Type 0} {Row : Key → Type 0} {A : Type 0} (same_key : Discrete
   unfolding run
   run_return a m = refl
 
-  pub run_get : (k : Key) (f : Row k → Program Key Row A) (m : Rows Row) → run same_key (get k f) m ≡ run same_key (f (m k)) m
-  unfolding run
-  run_get k f m = refl
-
-  pub run_put : (k : Key) (v : Row k) (p : Program Key Row A) (m : Rows Row) → run same_key (put k v p) m ≡ run same_key p (update same_key k v m)
-  unfolding run
-  run_put k v p m = refl
-
   pub run_yes : (b : Bool) (p q : Program Key Row A) (m : Rows Row) → T b → run same_key (provided b then p else q) m ≡ run same_key p m
   unfolding run
   run_yes true p q m t = refl

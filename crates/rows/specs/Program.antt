@@ -26,7 +26,7 @@ get_each key read (n ∷ ns) rest = do
   others ← get_each key read ns
   rest (read n row ∷ others)
 
--- One program, and then another with its answer: `x ← run-first p`.
+-- One program, and then another with its answer: `x ← run_first p`.
 unfoldable pub run_first : {Key : Type 0} {Row : Key → Type 0} {X A : Type 0} → Program Key Row X → (X → Program Key Row A) → Program Key Row A
 run_first (return x) rest = rest x
 run_first (get k f) rest = get k (λ row. run_first (f row) rest)

@@ -3,14 +3,13 @@
 
 ghost use Rattle.std.specs.Prelude.{◌+◌, ◌<◌, ◌≤◌};
 
-use chain::{CELLS, Chains, KEY_CELLS};
+use chain::{CELLS, Chains};
 use host_tasks::HostTask;
-use model::Call;
-use parts::{MAILBOX_CELLS, Mailbox, QUEUE_CELLS, Queue, TASK_CELLS, Task};
+use parts::{Mailbox, Queue, Task};
 use record::State;
 use ring::{PLACES, Ring};
-use std::io;
 use std::io::Read;
+use std::{array, io};
 
 // A record's parts, each by the byte that it starts at. Numbers are little-endian.
 
@@ -40,25 +39,19 @@ const RECORD: usize = 1152;
 
 // ── Numbers ──
 
-// One byte of a record.
-fn byte_at(record: &[u8; RECORD], at: usize) -> u8
-    requires { at < 1152 }
+// The N bytes of a record from here on.
+fn bytes_at<const N: usize>(record: &[u8; RECORD], at: usize) -> [u8; N]
+    requires { at + N ≤ 1152 }
 {
-    record[at]
+    let mut bytes = [0u8; N];
+    bytes.copy_from_slice(&record[at..at + N]);
+    bytes
 }
 
-// A byte as a word, so that it can be shifted to its place.
-fn wide(x: u8) -> u32 {
-    x as u32
-}
-
-// A word of four bytes, the lowest first.
 fn word_at(record: &[u8; RECORD], at: usize) -> u32
     requires { at + 4 ≤ 1152 }
 {
-    let low = wide(record[at]) | wide(record[at + 1]) << 8;
-    let high = wide(record[at + 2]) << 16 | wide(record[at + 3]) << 24;
-    low | high
+    u32::from_le_bytes(bytes_at(record, at))
 }
 
 // ── Tasks ──
@@ -67,37 +60,16 @@ fn word_at(record: &[u8; RECORD], at: usize) -> u32
 fn task_at(record: &[u8; RECORD], at: usize) -> Task
     requires { at + 20 ≤ 1152 }
 {
-    let word = word_at(record, at);
-    let end = word_at(record, at + 4);
-    let sending = word_at(record, at + 8);
-    let wait = byte_at(record, at + 12);
-    let object = byte_at(record, at + 13);
-    let timed = byte_at(record, at + 14);
-    let code = byte_at(record, at + 15);
-    let flags = word_at(record, at + 16);
-    host_tasks::read_task(HostTask {
-        word,
-        end,
-        sending,
-        wait,
-        object,
-        timed,
-        code,
-        flags,
+    Task::from(HostTask {
+        word: word_at(record, at),
+        end: word_at(record, at + 4),
+        sending: word_at(record, at + 8),
+        wait: record[at + 12],
+        object: record[at + 13],
+        timed: record[at + 14],
+        code: record[at + 15],
+        flags: word_at(record, at + 16),
     })
-}
-
-// All tasks, and cell 0, in which anything may stand.
-fn tasks_of(record: &[u8; RECORD]) -> [Task; TASK_CELLS] {
-    let first = task_at(record, TASKS_AT);
-    let mut tasks = [first; TASK_CELLS];
-    let mut t: usize = 1;
-    while t < TASK_CELLS {
-        let task = task_at(record, TASKS_AT + 20 * t);
-        tasks[t] = task;
-        t += 1;
-    }
-    tasks
 }
 
 // ── Objects ──
@@ -106,170 +78,74 @@ fn tasks_of(record: &[u8; RECORD]) -> [Task; TASK_CELLS] {
 fn queue_at(record: &[u8; RECORD], at: usize) -> Queue
     requires { at + 5 ≤ 1152 }
 {
-    let defined = byte_at(record, at);
-    let attribute = byte_at(record, at + 1);
-    let head = byte_at(record, at + 2);
-    let count = byte_at(record, at + 3);
-    let capacity = byte_at(record, at + 4);
     let ring = Ring {
         words: [0; PLACES],
-        head,
-        count,
-        capacity,
+        head: record[at + 2],
+        count: record[at + 3],
+        capacity: record[at + 4],
         spare: 0,
     };
     Queue {
         ring,
-        defined,
-        attribute,
+        defined: record[at],
+        attribute: record[at + 1],
         spare: 0,
     }
-}
-
-// All data queues, and cell 0.
-fn queues_of(record: &[u8; RECORD]) -> [Queue; QUEUE_CELLS] {
-    let first = queue_at(record, QUEUES_AT);
-    let mut queues = [first; QUEUE_CELLS];
-    let mut n: usize = 1;
-    while n < QUEUE_CELLS {
-        let queue = queue_at(record, QUEUES_AT + 5 * n);
-        queues[n] = queue;
-        n += 1;
-    }
-    queues
 }
 
 // A mailbox's bytes are: defined, attribute, highest message priority.
 fn mailbox_at(record: &[u8; RECORD], at: usize) -> Mailbox
     requires { at + 3 ≤ 1152 }
 {
-    let defined = byte_at(record, at);
-    let attribute = byte_at(record, at + 1);
-    let highest = byte_at(record, at + 2);
     Mailbox {
-        defined,
-        attribute,
-        highest,
+        defined: record[at],
+        attribute: record[at + 1],
+        highest: record[at + 2],
     }
-}
-
-// All mailboxes, and cell 0.
-fn mailboxes_of(record: &[u8; RECORD]) -> [Mailbox; MAILBOX_CELLS] {
-    let first = mailbox_at(record, MAILBOXES_AT);
-    let mut mailboxes = [first; MAILBOX_CELLS];
-    let mut n: usize = 1;
-    while n < MAILBOX_CELLS {
-        let mailbox = mailbox_at(record, MAILBOXES_AT + 3 * n);
-        mailboxes[n] = mailbox;
-        n += 1;
-    }
-    mailboxes
 }
 
 // ── Chains ──
-
-// The cells of a table.
-fn link_at(record: &[u8; RECORD], at: usize) -> [u8; CELLS]
-    requires { at + 81 ≤ 1152 }
-{
-    let mut link = [0u8; CELLS];
-    let mut i: usize = 0;
-    while i < CELLS {
-        link[i] = record[at + i];
-        i += 1;
-    }
-    link
-}
-
-// The keys of a table.
-fn key_at(record: &[u8; RECORD], at: usize) -> [u8; KEY_CELLS]
-    requires { at + 65 ≤ 1152 }
-{
-    let mut key = [0u8; KEY_CELLS];
-    let mut i: usize = 0;
-    while i < KEY_CELLS {
-        key[i] = record[at + i];
-        i += 1;
-    }
-    key
-}
 
 // A table: its cells, then its keys.
 fn chains_at(record: &[u8; RECORD], at: usize) -> Chains
     requires { at + 146 ≤ 1152 }
 {
-    let link = link_at(record, at);
-    let key = key_at(record, at + CELLS);
-    Chains { link, key }
+    Chains {
+        link: bytes_at(record, at),
+        key: bytes_at(record, at + CELLS),
+    }
 }
 
 // ── Records ──
 
-// The state that a record describes.
+// The state that a record describes. In cells 0 anything may stand.
 fn state_of(record: &[u8; RECORD]) -> State {
-    let counter = word_at(record, COUNTER_AT);
-    let tasks = tasks_of(record);
-    let waiting = chains_at(record, WAITING_AT);
-    let queues = queues_of(record);
-    let mailboxes = mailboxes_of(record);
-    let messages = chains_at(record, MESSAGES_AT);
     State {
-        counter,
-        tasks,
-        queues,
-        waiting,
-        messages,
-        mailboxes,
+        counter: word_at(record, COUNTER_AT),
+        tasks: array::from_fn(|t| task_at(record, TASKS_AT + 20 * t)),
+        queues: array::from_fn(|n| queue_at(record, QUEUES_AT + 5 * n)),
+        waiting: chains_at(record, WAITING_AT),
+        messages: chains_at(record, MESSAGES_AT),
+        mailboxes: array::from_fn(|n| mailbox_at(record, MAILBOXES_AT + 3 * n)),
     }
 }
 
-// Writes a text to standard output. Its bytes may be any.
-fn print(rt: &impl Print, text: &[u8]) -> io::Result<()> {
-    rt.write_all(text)
-}
-
-// Where a record's label ends.
-fn label_end(record: &[u8; RECORD]) -> usize
-    ensures { result ≤ 60 }
-{
-    let mut end = LABEL_AT;
-    while end < COUNTER_AT {
-        if record[end] == 0 {
-            return end;
-        }
-        end += 1;
-    }
-    COUNTER_AT
-}
-
-// Prints a record's label.
+// Prints a record's label, whose bytes may be any.
 fn print_label(rt: &impl Print, record: &[u8; RECORD]) -> io::Result<()> {
-    let start = LABEL_AT;
-    let end = label_end(record);
-    let bytes = &record[..];
-    print(rt, &bytes[start..end])
+    let label = &record[LABEL_AT..COUNTER_AT];
+    let end = label
+        .iter()
+        .position(|byte| *byte == 0)
+        .unwrap_or(label.len());
+    rt.write_all(&label[..end])
 }
 
 // Prints the answer, which ends the line.
 fn print_answer(rt: &impl Print, sound: bool) -> io::Result<()> {
     if sound {
-        print(rt, b": sound\n")
+        rt.write_all(b": sound\n")
     } else {
-        print(rt, b": not sound\n")
-    }
-}
-
-// The test is a part of what every call sees, so some call has to be made: look, by caller 0, of task 0.
-fn any_call() -> Call {
-    Call {
-        number: 22,
-        caller: 0,
-        locked: false,
-        disabled: false,
-        object: 0,
-        value: 0,
-        tmout: 0,
-        attribute: 0,
+        rt.write_all(b": not sound\n")
     }
 }
 
@@ -280,9 +156,8 @@ fn answer_record(rt: &impl Print, input: &mut impl Read) -> io::Result<bool> {
         return Ok(false);
     }
     let state = state_of(&record);
-    let sound = see::see(state, any_call()).sound;
     print_label(rt, &record)?;
-    print_answer(rt, sound)?;
+    print_answer(rt, see::sound(&state))?;
     Ok(true)
 }
 

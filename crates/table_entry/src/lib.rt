@@ -12,23 +12,22 @@ use record::State;
 pub fn enter_table(lent: &mut State, calls: &[Call], answers: &mut [Answer]) -> Code
     ensures { TableEntered lent.old calls.now answers.old lent.new answers.new result }
 {
-    let mut state = tables::read(*lent);
-    let tested = tables::test(state, calls.len(), answers.len());
-    if tested.runs {
-        let mut i: usize = 0;
-        while i < calls.len() {
-            let judged = tables::judge(state, calls[i]);
-            let answer = if judged.changes {
-                let stepped = kernel::carry_out(state, judged);
-                state = stepped.state;
-                tables::answered(stepped)
-            } else {
-                tables::said(judged)
-            };
-            answers[i] = answer;
-            i += 1;
-        }
-        *lent = tables::written(*lent, state);
+    let mut state = *lent;
+    if let Err(code) = tables::test(state, calls.len(), answers.len()) {
+        return code;
     }
-    tested.code
+    // Crate thin has this walk over any types: by its seven closures it is no plainer.
+    for (i, call) in calls.iter().enumerate() {
+        let decision = tables::judge(state, *call);
+        let changes = decide::changes(decision);
+        answers[i] = if changes {
+            let stepped = kernel::apply(state, decision);
+            state = stepped.state;
+            stepped.answer
+        } else {
+            decide::said(decision)
+        };
+    }
+    *lent = state;
+    Code::Ok
 }

@@ -2,98 +2,47 @@
 // leaves a sound record sound, so it is judged behind the test. Crate table_entry has the walk.
 #![tactic(auto)]
 
-ghost use Rattle.std.specs.Prelude.{◌≡◌, not, T};
-ghost use Rattle.model.specs.Rows.{Model};
+ghost use Rattle.std.specs.Prelude.{◌≡◌};
 ghost use Rattle.model.specs.Tables.{in_table};
-ghost use Rattle.decide.specs.Decisions.{after};
-ghost use Rattle.decide.specs.Touches.{changed_by};
 ghost use Rattle.record.specs.Sound.{Sound};
-ghost use Rattle.kernel.specs.Steps.{Weighed};
+ghost use Rattle.kernel.specs.Steps.{Judged};
 ghost use Rattle.tables.specs.Tested.{Tested};
 
-use kernel::Judgement;
-use model::{Answer, CALL_LIMIT, Call, Code, TABLE_LIMIT};
-use record::{State, Step};
+use decide::Decision;
+use model::{CALL_LIMIT, Call, Code, TABLE_LIMIT};
+use record::State;
 
-// The code of a table, and whether its calls are made.
-#[derive(Clone, Copy)]
-pub struct TableTest {
-    pub code: Code,
-    pub runs: bool,
-}
-
-// The state first, then how many calls and answer cells there are.
-pub fn test(state: State, calls: usize, cells: usize) -> TableTest
-    ensures { Tested state calls cells result.code result.runs }
+// Whether the calls of a table are made, and else its code. The state first, then how many calls and answer cells there are.
+pub fn test(state: State, calls: usize, cells: usize) -> Result<(), Code>
+    ensures { Tested state calls cells result }
 {
-    let unsound = !see::sound(state);
+    if !see::sound(&state) {
+        return Err(Code::Sys);
+    }
     let outside = (TABLE_LIMIT < calls) | (cells < calls);
-    if unsound {
-        return TableTest {
-            code: Code::Sys,
-            runs: false,
-        };
-    }
     if outside {
-        return TableTest {
-            code: Code::Par,
-            runs: false,
-        };
+        return Err(Code::Par);
     }
-    TableTest {
-        code: Code::Ok,
-        runs: true,
-    }
+    Ok(())
 }
 
 // A record of number 0 is no tick here: it is read as a call of unknown number.
 fn in_table(call: Call) -> Call
     ensures { result ≡ in_table call }
 {
-    let mut read = call;
     if call.number == 0 {
-        read.number = CALL_LIMIT + 1;
+        return Call {
+            number: CALL_LIMIT + 1,
+            ..call
+        };
     }
-    read
+    call
 }
 
 // What a record of the table comes to on a sound state.
-pub fn judge(state: State, call: Call) -> Judgement
+pub fn judge(state: State, call: Call) -> Decision
     requires { Sound state }
-    ensures { Weighed state (in_table call) result }
+    ensures { Judged state (in_table call) result }
 {
-    let decision = kernel::judge_sound(state, in_table(call));
-    Judgement {
-        decision,
-        changes: decide::changes(decision),
-    }
-}
-
-// The answer of a call that changes nothing.
-pub fn said(judged: Judgement) -> Answer
-    ensures { T (not (changed_by judged.decision)) → (m : Model) → result ≡ (after m judged.decision).answer }
-{
-    let decision = judged.decision;
-    decide::said(decision)
-}
-
-// The answer of a step.
-pub fn answered(stepped: Step) -> Answer
-    ensures { result ≡ stepped.answer }
-{
-    stepped.answer
-}
-
-// The walk over the tables serves hosts' records too, which are read before the first call and written back after the last one. A `State` is itself what is
-// read of it and written back.
-pub fn read(lent: State) -> State
-    ensures { result ≡ lent }
-{
-    lent
-}
-
-pub fn written(lent: State, last: State) -> State
-    ensures { result ≡ last }
-{
-    last
+    kernel::judge_sound(state, in_table(call))
 }

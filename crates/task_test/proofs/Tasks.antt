@@ -1,13 +1,13 @@
 -- What the tests of a task's parts say: by the cases of a wait, and by the wrapping difference of two ticks.
-use Rattle.std.proofs.Common.{◌≡◌, ℕ, ◌+◌, ◌%◌, ◌^◌, ◌<◌, ◌≤◌, Bool, true, false, T, sym, ap, ◌∙◌, subst, true≢false, arith}
-use Rattle.lists.specs.Tests.{Whether, holds, fails}
+use Rattle.std.proofs.Common.{◌≡◌, ℕ, ◌+◌, ◌%◌, ◌^◌, ◌<◌, ◌≤◌, Bool, true, false, T, sym, ap, ◌∙◌, subst, arith}
+use Rattle.lists.specs.Tests.{Whether, holds}
 use Rattle.lists.proofs.Tests.{is_map, is_and, is_leb, passed_test, passes_test}
 use Rattle.model.specs.Sizes.{priority_limit, end_limit, counter_span, within}
 use Rattle.model.specs.declared.End.{End}
 use Rattle.model.specs.declared.End.TheVariants.{Never, At}
 use Rattle.model.specs.declared.Wait.{Wait}
 use Rattle.model.specs.declared.Wait.TheVariants.{NoWait}
-use Rattle.model.specs.Waits.{able, wait_end}
+use Rattle.model.specs.Waits.{wait_end}
 use Rattle.model.specs.WellFormed.{ends_a_wait, ticks_left, EndAhead, ObjectInRange}
 use Rattle.parts.specs.Chains.{wait_chain}
 use Rattle.parts.specs.Tasks.{read_code, NamesChain, WaitSound, TaskSound}
@@ -48,9 +48,6 @@ pub waits_not : {counter standing : ℕ} {w : Wait} {b : Bool} → w ≡ NoWait 
 waits_not {counter} {standing} {b = b} e i =
     subst (λ (u : Wait). Whether (WaitSound counter standing u) b) (sym e)
     (is_map (λ z. record { stands = sym z; object_in_range = tt; end = tt }) (λ s. sym s.stands) i)
-
-pub not_waiting : {w v : Wait} → w ≡ v → able v ≡ false → Whether (w ≡ NoWait) false
-not_waiting e f = fails (λ g. true≢false (sym (ap able g) ∙ ap able e ∙ f))
 
 -- ── Tasks ──
 

@@ -1,9 +1,8 @@
 // The test whether a task is sound, which is document 01's word ("A sound record"): exact whatever its record holds, once the chains are sound.
 #![tactic(auto)]
 
-ghost use Rattle.std.specs.Prelude.{◌≡◌, T};
+ghost use Rattle.std.specs.Prelude.{T};
 ghost use Rattle.lists.specs.Tests.{Whether};
-ghost use Rattle.model.specs.declared.Wait.TheVariants.{NoWait};
 ghost use Rattle.model.specs.WellFormed.{ends_a_wait, EndAhead};
 ghost use Rattle.parts.specs.Tasks.{read_code, NamesChain, WaitSound, TaskSound};
 
@@ -36,11 +35,9 @@ fn wait_sound(wait: Wait, standing: u8, counter: u32) -> bool
 {
     match wait {
         Wait::NoWait => standing == 0,
-        Wait::Sending {
-            queue,
-            end,
-            word: _,
-        } => names_chain(standing, 0, queue) & end_sound(end, counter),
+        Wait::Sending { queue, end, .. } => {
+            names_chain(standing, 0, queue) & end_sound(end, counter)
+        }
         Wait::Receiving { queue, end } => {
             names_chain(standing, RECEIVERS as u8, queue) & end_sound(end, counter)
         }
@@ -57,21 +54,6 @@ fn code_sound(code: u8) -> bool
     (code == OK) | (code == RLWAI) | (code == TMOUT) | (code == DLT)
 }
 
-fn no_wait(wait: Wait) -> bool
-    ensures { Whether (wait ≡ NoWait) result }
-{
-    match wait {
-        Wait::NoWait => true,
-        Wait::Sending {
-            queue: _,
-            end: _,
-            word: _,
-        } => false,
-        Wait::Receiving { queue: _, end: _ } => false,
-        Wait::AtMailbox { mailbox: _, end: _ } => false,
-    }
-}
-
 // Whether a task of this priority is sound that stands in the chain `standing`, 0 for none.
 pub fn task_sound(task: Task, priority: u8, standing: u8, counter: u32) -> bool
     ensures { Whether (TaskSound counter priority standing task) result }
@@ -83,5 +65,5 @@ pub fn task_sound(task: Task, priority: u8, standing: u8, counter: u32) -> bool
         }
         return wait_sound(wait, standing, counter);
     }
-    !task.suspended & (standing == 0) & no_wait(wait)
+    !task.suspended & (standing == 0) & (wait == Wait::NoWait)
 }

@@ -2,7 +2,6 @@
 use Rattle.std.proofs.Common.{◌≡◌, ℕ, Bool, true, false, not, T, ◌≢◌, List, get_or, set, refl, ap, ◌∙◌, arith, length-set, get_or-set_other, get_or-set_same}
 use native.Mathlib.Decide.{ℕ_discrete}
 use Rattle.rows.specs.Program.{update}
-use Rattle.chain.specs.Changes.{Removed}
 use Rattle.model.specs.Sizes.{task_limit}
 use Rattle.model.specs.Rows.{Key, task, suspension, queue, mailbox, message, same_key, valid}
 use Rattle.model.specs.Codes.{finished, done}
@@ -14,17 +13,16 @@ use Rattle.model.specs.declared.Code.TheVariants.{Ok as E_OK, Rlwai as E_RLWAI}
 use Rattle.model.specs.declared.Wait.TheVariants.{NoWait}
 use Rattle.model.proofs.Tests.{from_within}
 use Rattle.model.proofs.After.{after_return, after_put}
-use Rattle.parts.specs.Chains.{task_chains, wait_chain}
-use Rattle.parts.specs.Tasks.{task_row, read_code, with_wait_ended}
+use Rattle.parts.specs.Tasks.{task_row, read_code}
 use Rattle.parts.specs.declared.Task.{Task}
 use Rattle.record.specs.declared.State.{State}
 use Rattle.record.specs.Meaning.{task_at, cells_of, abs}
 use Rattle.record.specs.Sound.{Readable, Sound}
 use Rattle.record.specs.Step.{Becomes, Does}
-use Rattle.record.proofs.Laws.{with_task, with_waiting, changed_row, two_rows, same_environment, counter_is, new_task, other_task, readable_task, does, does_rest, stays}
-use Rattle.waits.specs.Waiting.{Endable}
+use Rattle.record.proofs.Laws.{with_task, changed_row, two_rows, same_environment, counter_is, new_task, other_task, readable_task, does, does_rest, stays}
+use Rattle.waits.specs.Waiting.{Endable, Ended}
 use Rattle.waits.proofs.Laws.{rows_of}
-use Rattle.waits.proofs.Ends.{endable, ended_all, end_becomes, end_runs}
+use Rattle.waits.proofs.Ends.{endable, end_becomes, end_runs}
 
 -- ── 20, 21 ──
 
@@ -128,11 +126,6 @@ module _ {s : State} (S : Sound s) (t : ℕ) (ok : T (valid (task t))) (waits : 
   can_end = endable S.readable (rows_of S) t ok waits
 
   -- The number 49 that is stored is read as E_RLWAI.
-  pub wait_ended : {link : List ℕ} {place : ℕ} {y : Task} {x : Answer} → Removed task_limit task_chains (wait_chain (task_at s t).wait) t s.waiting.link link place
-      → y ≡ with_wait_ended 49 0 (task_at s t) → x ≡ finished E_OK 0 0 0
-      → Does (end_wait t E_RLWAI done) s (record { state = with_task t y (with_waiting link s); answer = x })
+  pub wait_ended : {r : State} {x : Answer} → Ended s t (read_code 49) r → x ≡ finished E_OK 0 0 0 → Does (end_wait t E_RLWAI done) s (record { state = r; answer = x })
   unfolding read_code
-  wait_ended {link} {place} {y} p f e =
-      let h = ended_all can_end p E_RLWAI 49 refl y f in
-      let b = end_becomes waits h in
-      does_rest (end_runs waits h done) (counter_is b) (stays b.readable e)
+  wait_ended h e = let b = end_becomes waits h in does_rest (end_runs waits h done) (counter_is b) (stays b.readable e)

@@ -5,7 +5,6 @@ use Rattle.lists.specs.Lists.{ascending}
 use Rattle.rows.specs.Program as Program
 use Rattle.rows.specs.Program.{provided◌then◌else◌, run, Result}
 use Rattle.rows.proofs.Run.{run_yes, run_no}
-use Rattle.chain.specs.Changes.{Removed}
 use Rattle.model.specs.Sizes.{task_limit, counter_span}
 use Rattle.model.specs.Rows.{Key, task, suspension, queue, mailbox, message, same_key, valid, Row, TaskRow}
 use Rattle.model.specs.Codes.{finished}
@@ -17,17 +16,15 @@ use Rattle.model.specs.declared.Answer.{Answer}
 use Rattle.model.specs.declared.Code.TheVariants.{Ok as E_OK, Tmout as E_TMOUT}
 use Rattle.model.proofs.Tests.{to_within}
 use Rattle.model.proofs.KeptTick.{due_waits}
-use Rattle.parts.specs.Chains.{task_chains, wait_chain}
-use Rattle.parts.specs.Tasks.{read_code, with_wait_ended}
-use Rattle.parts.specs.declared.Task.{Task}
+use Rattle.parts.specs.Tasks.{read_code}
 use Rattle.record.specs.declared.State.{State}
 use Rattle.record.specs.Meaning.{task_at, abs}
 use Rattle.record.specs.Sound.{Readable, Sound}
 use Rattle.record.proofs.Rows.{row_is}
-use Rattle.record.proofs.Laws.{with_task, with_waiting, counter_is}
+use Rattle.record.proofs.Laws.{counter_is}
 use Rattle.waits.specs.Waiting.{Endable, Ended}
 use Rattle.waits.proofs.Laws.{rows_of}
-use Rattle.waits.proofs.Ends.{endable, ended_all, end_becomes, end_runs, end_kept}
+use Rattle.waits.proofs.Ends.{endable, end_becomes, end_runs, end_kept}
 use Rattle.tasks.specs.Tick.{Ticked}
 
 -- ── The counter ──
@@ -124,30 +121,22 @@ module _ {counter : ℕ} {s₀ s : State} {n t : ℕ} (i : Ticking counter s₀ 
     pub turn_endable : Endable s t
     turn_endable = endable i.readable i.rows t turn_valid waits
 
-    module _ {link : List ℕ} {place : ℕ} {y : Task} (p : Removed task_limit task_chains (wait_chain (task_at s t).wait) t s.waiting.link link place)
-        (f : y ≡ with_wait_ended 50 0 (task_at s t)) where
-      abbrev after : State
-      after = with_task t y (with_waiting link s)
-
-      -- The number 50 that is stored is read as E_TMOUT.
-      turn_ended : Ended s t E_TMOUT after
-      unfolding read_code
-      turn_ended = ended_all turn_endable p E_TMOUT 50 refl y f
-
-      pub turn_ends : Ticking counter s₀ after (n + 1) (t + 1)
-      turn_ends =
-          let b = end_becomes waits turn_ended in
-          let yes_due : T (due counter (wait_end ((abs s).rows (task t)).wait)) = rw (wait_is, d) tt in
-          record {
-            readable = b.readable;
-            counter_is = counter_is b ∙ i.counter_is;
-            inside = i.inside;
-            low = omega arith;
-            high = omega arith;
-            few = let f = i.few in omega arith;
-            rows = end_kept waits turn_ended tt i.rows;
-            runs = rw (add-one n) (sym (end_runs waits turn_ended _) ∙ (sym (run_yes same_key _ _ _ _ yes_due) ∙ (sym turn_runs ∙ i.runs)));
-          }
+    -- The number 50 that is stored is read as E_TMOUT.
+    pub turn_ends : {r : State} → Ended s t (read_code 50) r → Ticking counter s₀ r (n + 1) (t + 1)
+    unfolding read_code
+    turn_ends ended =
+        let b = end_becomes waits ended in
+        let yes_due : T (due counter (wait_end ((abs s).rows (task t)).wait)) = rw (wait_is, d) tt in
+        record {
+          readable = b.readable;
+          counter_is = counter_is b ∙ i.counter_is;
+          inside = i.inside;
+          low = omega arith;
+          high = omega arith;
+          few = let f = i.few in omega arith;
+          rows = end_kept waits ended tt i.rows;
+          runs = rw (add-one n) (sym (end_runs waits ended _) ∙ (sym (run_yes same_key _ _ _ _ yes_due) ∙ (sym turn_runs ∙ i.runs)));
+        }
 
 pub ticking_ends : {s r : State} {counter n t : ℕ} {x : Answer} → counter ≡ (s.counter + 1) % counter_span → Ticking counter (with_counter counter s) r n t → task_limit < t
     → x ≡ finished E_OK n 0 0 → Ticked s (record { state = r; answer = x })

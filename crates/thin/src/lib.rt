@@ -5,8 +5,8 @@
 mod record;
 mod table;
 
-pub use record::{Judged, Stepped, Taken, enter, enter_block, enter_judged, fill, read};
-pub use table::{Tested, enter_table};
+pub use record::{Stepped, enter, enter_block, enter_judged, fill, read};
+pub use table::enter_table;
 
 #[cfg(test)]
 mod tests;

@@ -1,5 +1,5 @@
 //! Entries over one lent record.
-ghost use Rattle.std.specs.Prelude.{◌≡◌, true};
+ghost use Rattle.std.specs.Prelude.{◌≡◌, None};
 ghost use Rattle.thin.specs.Entered.{EnteredBlock, EnteredJudged};
 
 /// What a step leaves, and what it answers.
@@ -7,21 +7,6 @@ ghost use Rattle.thin.specs.Entered.{EnteredBlock, EnteredJudged};
 pub struct Stepped<S, N> {
     pub state: S,
     pub answer: N,
-}
-
-/// What is known of a call before anything is done, and whether the call changes anything.
-#[derive(Clone, Copy)]
-pub struct Judged<J> {
-    pub judgement: J,
-    pub changes: bool,
-}
-
-/// What a block of bytes comes to: the record afterwards, which counts only where the block is taken, and a code.
-#[derive(Clone, Copy)]
-pub struct Taken<T, R> {
-    pub state: T,
-    pub code: R,
-    pub taken: bool,
 }
 
 /// Fills what is lent, whatever was there.
@@ -50,8 +35,8 @@ pub fn enter<T: Copy, D, N, F: Fn(T, D) -> Stepped<T, N>>(step: F, lent: &mut T,
     stepped.answer
 }
 
-/// Is handed a block of bytes, and stores only where it is taken.
-pub fn enter_block<T: Copy, R, F: Fn(T, &[u8]) -> Taken<T, R>>(
+/// Is handed a block of bytes, and stores only where it is taken: else there is a code alone.
+pub fn enter_block<T: Copy, R, F: Fn(T, &[u8]) -> Result<Stepped<T, R>, R>>(
     take: F,
     lent: &mut T,
     block: &[u8],
@@ -59,14 +44,16 @@ pub fn enter_block<T: Copy, R, F: Fn(T, &[u8]) -> Taken<T, R>>(
     requires { F.pre take lent.old block }
     ensures { EnteredBlock (F.post take lent.old block.entry) lent.old lent.new result }
 {
-    let taken = take(*lent, block);
-    if taken.taken {
-        *lent = taken.state;
+    match take(*lent, block) {
+        Ok(taken) => {
+            *lent = taken.state;
+            taken.answer
+        }
+        Err(code) => code,
     }
-    taken.code
 }
 
-/// Judges first, and stores only where something changes.
+/// Judges first, and stores only where something changes: `say` answers where nothing does.
 pub fn enter_judged<
     T: Copy,
     S: Copy,
@@ -75,36 +62,37 @@ pub fn enter_judged<
     Y: Copy,
     N,
     Read: Fn(T) -> S,
-    Judge: Fn(S, D) -> Judged<J>,
-    Apply: Fn(S, Judged<J>) -> Y,
-    Store: Fn(T, Y, Judged<J>) -> T,
+    Judge: Fn(S, D) -> J,
+    Say: Fn(J) -> Option<N>,
+    Apply: Fn(S, J) -> Y,
+    Store: Fn(T, Y, J) -> T,
     Answer: Fn(Y) -> N,
-    Say: Fn(Judged<J>) -> N,
 >(
     read: Read,
     judge: Judge,
+    say: Say,
     apply: Apply,
     store: Store,
     answer: Answer,
-    say: Say,
     lent: &mut T,
     handed: D,
 ) -> N
     requires reads { Read.pre read lent.old }
     requires judges { (s : S) → Read.post read lent.old s → Judge.pre judge s handed }
-    requires applies { (s : S) (j : Judged J) → Read.post read lent.old s
-        → Judge.post judge s handed j → j.changes ≡ true → Apply.pre apply s j }
+    requires says { Say.IsAlwaysCallable say }
+    requires applies { (s : S) (j : J) → Read.post read lent.old s
+        → Judge.post judge s handed j → Say.post say j None → Apply.pre apply s j }
     requires stores { Store.IsAlwaysCallable store }
     requires answers { Answer.IsAlwaysCallable answer }
-    requires says { Say.IsAlwaysCallable say }
-    ensures { EnteredJudged (Read.post read) (Judge.post judge) (Apply.post apply) (Store.post store) (Answer.post answer) (Say.post say) lent.old handed lent.new result }
+    ensures { EnteredJudged (Read.post read) (Judge.post judge) (Say.post say) (Apply.post apply) (Store.post store) (Answer.post answer)
+        lent.old handed lent.new result }
 {
     let state = read(*lent);
-    let judged = judge(state, handed);
-    if judged.changes {
-        let stepped = apply(state, judged);
-        *lent = store(*lent, stepped, judged);
-        return answer(stepped);
+    let judgement = judge(state, handed);
+    if let Some(said) = say(judgement) {
+        return said;
     }
-    say(judged)
+    let stepped = apply(state, judgement);
+    *lent = store(*lent, stepped, judgement);
+    answer(stepped)
 }

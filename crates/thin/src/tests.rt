@@ -1,8 +1,8 @@
 //! Each entry once, at functions that are written out: what the entries require can be met.
 ghost use Rattle.std.specs.Prelude.{◌≡◌, ◌+◌, ◌<◌, ◌≤◌};
 
-use crate::record::{Judged, Stepped, Taken, enter, enter_block, enter_judged, fill, read};
-use crate::table::{Tested, enter_table};
+use crate::record::{Stepped, enter, enter_block, enter_judged, fill, read};
+use crate::table::enter_table;
 
 #[test]
 fn fills(rt: HostRuntime) {
@@ -35,10 +35,15 @@ fn always_stores(rt: HostRuntime) {
 #[test]
 fn stores_a_block_that_is_taken(rt: HostRuntime) {
     let mut record: u32 = 5;
-    let take = |r: u32, block: &[u8]| Taken {
-        state: r / 2,
-        code: block.len(),
-        taken: block.len() < 3,
+    let take = |r: u32, block: &[u8]| {
+        if block.len() < 3 {
+            Ok(Stepped {
+                state: r / 2,
+                answer: block.len(),
+            })
+        } else {
+            Err(block.len())
+        }
     };
     assert_eq!(rt; enter_block(take, &mut record, &[1, 2, 3]), 3);
     assert_eq!(rt; record, 5);
@@ -52,16 +57,13 @@ fn stores_what_changes(rt: HostRuntime) {
     for (by, left, answered) in [(0, 5, 0), (2, 2, 102)] {
         let answer = enter_judged(
             |r: u32| r,
-            |_r: u32, by: u32| Judged {
-                judgement: by,
-                changes: by > 0,
-            },
-            |r: u32, judged: Judged<u32>| -> u32
-                requires { 0 < judged.judgement }
-            { r / judged.judgement },
-            |_r: u32, step: u32, _judged: Judged<u32>| step,
+            |_r: u32, by: u32| by,
+            |judgement: u32| if judgement == 0 { Some(0) } else { None },
+            |r: u32, judgement: u32| -> u32
+                requires { 0 < judgement }
+            { r / judgement },
+            |_r: u32, step: u32, _judgement: u32| step,
             |step: u32| step.wrapping_add(100),
-            |judged: Judged<u32>| judged.judgement,
             &mut record,
             by,
         );
@@ -74,23 +76,25 @@ fn stores_what_changes(rt: HostRuntime) {
 fn walks_over_tables(rt: HostRuntime) {
     let mut record: u32 = 5;
     let mut answers = [0u32; 3];
-    for (room, code, left, given) in [(1, 9, 5, [0, 0, 0]), (3, 4, 3, [5, 102, 0])] {
+    for (room, code, left, given) in [(1, Err(9), 5, [0, 0, 0]), (3, Ok(4), 3, [5, 102, 0])] {
         let got = enter_table(
             |r: u32| r,
-            |_r: u32, calls: usize, cells: usize| Tested {
-                code: if calls <= cells { 4u8 } else { 9 },
-                runs: calls <= cells,
+            |_r: u32, calls: usize, cells: usize| {
+                if calls <= cells { Ok(4u8) } else { Err(9u8) }
             },
-            |_r: u32, by: u32| Judged {
-                judgement: by,
-                changes: by < 100,
+            |_r: u32, by: u32| by,
+            |judgement: u32| {
+                if judgement < 100 {
+                    None
+                } else {
+                    Some(judgement)
+                }
             },
-            |r: u32, judged: Judged<u32>| Stepped {
-                state: r ^ judged.judgement,
+            |r: u32, judgement: u32| Stepped {
+                state: r ^ judgement,
                 answer: r,
             },
             |step: Stepped<u32, u32>| step.answer,
-            |judged: Judged<u32>| judged.judgement,
             |_r: u32, state: u32| state,
             &mut record,
             &[6, 102],

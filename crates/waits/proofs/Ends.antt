@@ -12,7 +12,7 @@ use Rattle.lists.specs.Lists.{empty, without}
 use Rattle.lists.proofs.Stands.{in_head, without_head}
 use Rattle.rows.specs.Program.{run}
 use Rattle.rows.proofs.Update.{update_same, update_other}
-use Rattle.chain.specs.Changes.{HasChain, Changed, Removed}
+use Rattle.chain.specs.Changes.{Changed, Removed}
 use Rattle.chain.proofs.Laws.{list_range}
 use Rattle.model.specs.Sizes.{task_limit}
 use Rattle.model.specs.Rows.{task, mailbox, same_key, valid, TaskRow, Effect}
@@ -38,7 +38,7 @@ use Rattle.record.specs.Sound.{Readable, Sound}
 use Rattle.record.specs.Step.{Becomes}
 use Rattle.waits.specs.Waiting.{chain_list, ChainOf, OnChain, rows_with_wait_ended, Endable, Ended, Clearable, Cleared}
 use Rattle.record.proofs.Rows.{passes_or_not, row_is}
-use Rattle.record.proofs.Chains.{chain_range, ChainOwner, chain_owner, named_chain}
+use Rattle.record.proofs.Chains.{ChainOwner, chain_owner, named_chain}
 use Rattle.record.proofs.Standing.{stands_from}
 use Rattle.record.proofs.Laws.{with_task, with_waiting, counter_is}
 use Rattle.waits.proofs.Laws.{rows_of, end_ahead, becomes_sound, has_chain, standing_chain, some_head, chain_of_queue, nobody_waits, ended_row, wait_changed}
@@ -54,14 +54,6 @@ module _ {s : State} {t : ℕ} (a : Endable s t) where
 
   named : (k : WaitQueue) → wait_queue (task_at s t).wait ≡ some k → T (valid (object_of k)) × (wait_chain (task_at s t).wait ≡ chain_number k)
   named k e = named_chain (task_at s t).wait k e a.object_in_range
-
-  -- The task stands in a chain of the table.
-  pub removable : HasChain task_limit task_chains (wait_chain (task_at s t).wait) s.waiting.link
-  removable =
-      let somewhere = waits_somewhere (task_at s t).wait a.waits in
-      let n = named somewhere.queue_named somewhere.named in
-      let r = chain_range somewhere.queue_named n.0 in
-      record { sound = R.waiting; low = rw n.1 r.0; high = rw n.1 r.1 }
 
   module _ {link : List ℕ} {n : ℕ} (p : Removed task_limit task_chains (wait_chain (task_at s t).wait) t s.waiting.link link n) (code : Code) where
     pub ended_all : (number : ℕ) → read_code number ≡ code → (y : Task) → y ≡ with_wait_ended number 0 (task_at s t) → Ended s t code (with_task t y (with_waiting link s))

@@ -74,12 +74,8 @@ module _ {s : State} {chain : ℕ} (a : OnChain s chain) (k : WaitQueue) (o : Ch
   pub chain_of_queue : standing_in (abs s).rows k ≡ chain_list s chain
   chain_of_queue = standing_chain s k o.valid_object ∙ ap (chain_list s) o.chain_is
 
-  module _ {first : ℕ} (first_is : first ≡ head_d (chain_list s chain) 0) where
-    pub nobody_waits : first ≡ 0 → standing_in (abs s).rows k ≡ []
-    nobody_waits none = chain_of_queue ∙ (chain_zero (has_chain a) first_is).then_empty none
-
-    pub someone_waits : first ≢ 0 → T (not (empty (standing_in (abs s).rows k)))
-    someone_waits some = rw chain_of_queue (some_head (chain_list s chain) first_is some)
+  pub nobody_waits : {first : ℕ} → first ≡ head_d (chain_list s chain) 0 → first ≡ 0 → standing_in (abs s).rows k ≡ []
+  nobody_waits first_is none = chain_of_queue ∙ (chain_zero (has_chain a) first_is).then_empty none
 
   pub releasable : T (not (empty (standing_in (abs s).rows k))) → Releasable s chain
   releasable f = record { on = a; someone = rw chain_of_queue at f }

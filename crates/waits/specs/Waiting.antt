@@ -100,7 +100,7 @@ pub record Endable (s : State) (t : ℕ) : Type 0 where
 pub record Ended (s : State) (t : ℕ) (code : Code) (r : State) : Type 0 where
   pub becomes : (k : WaitQueue) → wait_queue ((abs s).rows (task t)).wait ≡ some k → Becomes s (rows_with_wait_ended t code k (abs s).rows) r
 
--- There is such a wait queue, and one alone, since `wait-queue` is a function.
+-- There is such a wait queue, and one alone, since `wait_queue` is a function.
 pub record SomeQueueNamed (wait : Wait) : Type 0 where
   pub queue : WaitQueue
   pub is : wait_queue wait ≡ some queue

@@ -4,4 +4,4 @@ use Rattle.chain.specs.Table.{follow}
 use Rattle.chain_test.proofs.+in_order_from.Given as goal
 
 abbrev pub decreases-in_order_from : goal.decreases-in_order_from
-decreases-in_order_from l = length (follow l.numbers l.link.now l.cell)
+decreases-in_order_from l = length (follow l.numbers l.table.now.link l.cell)

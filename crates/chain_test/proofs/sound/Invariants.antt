@@ -4,7 +4,7 @@ use Rattle.chain_test.proofs.Marks.{MarkedBelow}
 use Rattle.chain_test.proofs.sound.Given as goal
 
 abbrev pub invariant-loop-chain : goal.invariant-loop-chain
-invariant-loop-chain l = (0 < l.chain) × (l.chain ≤ l.chains + 1) × MarkedBelow l.numbers l.chain l.link l.standing
+invariant-loop-chain l = (0 < l.chain) × (l.chain ≤ l.chains + 1) × MarkedBelow l.numbers l.chain l.table.link l.standing
 
 abbrev pub decreases-loop-chain : goal.decreases-loop-chain
 decreases-loop-chain l = l.chains + 1 - l.chain

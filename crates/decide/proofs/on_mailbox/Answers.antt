@@ -1,21 +1,23 @@
 -- `on_mailbox` goes by the number of the call.
-use Rattle.std.proofs.Common.{◌%◌, cond, ap, ◌∙◌, arith}
+use Rattle.std.proofs.Common.{◌≡◌, ◌%◌, cond, arith}
+use Rattle.model.specs.Rows.{messages_by_priority}
 use Rattle.decide.proofs.Mailboxes.{created, deleted, referred}
 use Rattle.decide.proofs.on_mailbox.Goals as goal
+use Rattle.decide.proofs.on_mailbox.Goals.{then-by_priority, else-by_priority}
 
-pub returns-then-number-eq12 : goal.returns-then-number-eq12
-returns-then-number-eq12 c m a = created _ a c.if-number-eq12.true _ _ c.low_byte-attribute.ensures
-    (c.kept-highest.ensures ∙ ap (λ b. cond b (c.args.call.value % 256) 0) c.messages_by_priority.ensures)
+pub returns-after-by_priority : goal.returns-after-by_priority
+returns-after-by_priority c m a =
+    let highest : c.if-by_priority.highest ≡ cond (messages_by_priority c.args.call.attribute) (c.args.call.value % 256) 0 =
+    elim c.if-by_priority.branch [
+      | then-by_priority w ↦ simp (w.highest-is, ← c.messages_by_priority-by_priority.ensures, w.if-by_priority.true, w.low_byte-highest.ensures)
+      | else-by_priority w ↦ simp (w.highest-is, ← c.messages_by_priority-by_priority.ensures, w.if-by_priority.false)
+    ] in
+    created _ a c.in-12.is _ _ c.low_byte.ensures highest
 
-pub returns-then-number-eq13 : goal.returns-then-number-eq13
-returns-then-number-eq13 c m a = deleted _ a c.if-number-eq13.true
+pub returns-in-13 : goal.returns-in-13
+returns-in-13 c m a = deleted _ a c.in-13.is
 
-pub receive_message-requires : goal.receive_message-requires
-receive_message-requires c =
-    record {
-      at_least = omega (arith, c.if-number-eq12.false, c.if-number-eq13.false, c.if-number-eq14.false);
-      at_most = c.if-number-le17.true;
-    }
-
-pub returns : goal.returns
-returns c m a = let above = c.if-number-le17.false in referred _ a (omega arith)
+pub returns-in_default : goal.returns-in_default
+returns-in_default c m a =
+    let last : c.args.call.number ≡ 18 = grind arith in
+    rw (c.from.ensures, c.from-in_default.ensures) (referred _ a last)

@@ -1,5 +1,4 @@
 -- `touches` goes by the decision: each arm names the one task that its program changes.
-use Rattle.std.proofs.Common.{refl}
 use Rattle.decide.proofs.Untouched.{by_define, by_end_wait, by_suspend, by_deliver, by_refill, by_take, by_deliver_message, by_join, no_task}
 use Rattle.decide.proofs.touches.Goals as goal
 
@@ -28,13 +27,13 @@ pub returns-in-Join : goal.returns-in-Join
 returns-in-Join c = rw c.in-Join.is (by_join _ _ _)
 
 pub returns-in-Tick : goal.returns-in-Tick
-returns-in-Tick c some = absurd (some refl)
+returns-in-Tick c m r t n = absurd (n tt)
 
 pub returns-in-DeleteQueue : goal.returns-in-DeleteQueue
-returns-in-DeleteQueue c some = absurd (some refl)
+returns-in-DeleteQueue c m r t n = absurd (n tt)
 
 pub returns-in-DeleteMailbox : goal.returns-in-DeleteMailbox
-returns-in-DeleteMailbox c some = absurd (some refl)
+returns-in-DeleteMailbox c m r t n = absurd (n tt)
 
 pub returns-in_default : goal.returns-in_default
 returns-in_default c =

@@ -3,7 +3,4 @@ use Rattle.host_record.proofs.Sets.{SoFar}
 use Rattle.host_record.proofs.task_sets.Given as goal
 
 abbrev pub invariant-loop-t : goal.invariant-loop-t
-invariant-loop-t l = SoFar l.numbers l.t l.waiting l.runnable
-
-abbrev pub decreases-loop-t : goal.decreases-loop-t
-decreases-loop-t l = l.t
+invariant-loop-t l = SoFar l.lent.tasks l.t l.waiting l.runnable

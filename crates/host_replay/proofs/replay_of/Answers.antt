@@ -5,4 +5,4 @@ use Rattle.host_replay.proofs.replay_of.Goals as goal
 
 pub returns : goal.returns
 unfolding replay_of
-returns c = rw c.state_of-state.ensures refl
+returns c = rw c.state_of.ensures refl

@@ -1,5 +1,4 @@
 -- `rewrite_all` writes the tasks' numbers one after the other.
-use Prim.Native.Nat.{◌-◌}
 use Rattle.host_tasks.proofs.Rewriting.{SoFar}
 use Rattle.host_tasks.specs.declared.HostTask.{HostTask}
 use Rattle.host_tasks.proofs.rewrite_all.Given as goal
@@ -9,6 +8,3 @@ outside = record { word = 0; end = 0; sending = 0; wait = 0; object = 0; timed =
 
 abbrev pub invariant-loop-n : goal.invariant-loop-n
 invariant-loop-n l = SoFar outside l.initial.numbers l.tasks l.numbers l.n
-
-abbrev pub decreases-loop-n : goal.decreases-loop-n
-decreases-loop-n l = 33 - l.n

@@ -1,9 +1,9 @@
 -- `rewritten` goes by whether the numbers read as the task already.
-use Rattle.host_tasks.proofs.Rewriting.{kept_numbers, new_numbers}
+use Rattle.host_tasks.proofs.Rewriting.{by_eq, kept_numbers, new_numbers}
 use Rattle.host_tasks.proofs.rewritten.Goals as goal
 
-pub returns-then-same_numbers : goal.returns-then-same_numbers
-returns-then-same_numbers c = kept_numbers _ _ c.write_task-new.ensures c.read_task.ensures c.write_task-old.ensures c.same_numbers.ensures c.if-same_numbers.true
+pub returns-then-eq : goal.returns-then-eq
+returns-then-eq c = kept_numbers _ _ c.from-new.ensures c.from.ensures c.from-old.ensures (by_eq c.from-new.result c.from-old.result c.eq.ensures) c.if-eq.true
 
-pub returns : goal.returns
-returns c = new_numbers _ _ c.write_task-new.ensures c.read_task.ensures c.write_task-old.ensures c.same_numbers.ensures c.if-same_numbers.false
+pub returns-else-eq : goal.returns-else-eq
+returns-else-eq c = new_numbers _ _ c.from-new.ensures c.from.ensures c.from-old.ensures (by_eq c.from-new.result c.from-old.result c.eq.ensures) c.if-eq.false

@@ -99,11 +99,11 @@ join-requires c =
 
 pub returns-in-Refuse : goal.returns-in-Refuse
 unfolding ran run
-returns-in-Refuse c = rw c.in-Refuse.is (nothing_done (Refuse _) tt c.say.ensures)
+returns-in-Refuse c = rw c.in-Refuse.is (nothing_done (Refuse _) tt (rw c.finished.ensures refl))
 
 pub returns-in-Say : goal.returns-in-Say
 unfolding ran run
-returns-in-Say c = rw c.in-Say.is (nothing_done (Say _ _ _ _) tt c.say-in-Say.ensures)
+returns-in-Say c = rw c.in-Say.is (nothing_done (Say _ _ _ _) tt (rw c.finished-in-Say.ensures refl))
 
 pub returns-in-Tick : goal.returns-in-Tick
 returns-in-Tick c = rw c.in-Tick.is (something_done _ tt c.tick.ensures.meaning_is c.tick.ensures.answer_is c.tick.ensures.readable)

@@ -2,8 +2,5 @@
 use Rattle.kernel.proofs.Outcomes.{sound_judged}
 use Rattle.kernel.proofs.judge_sound.Goals as goal
 
-pub view-seen-requires : goal.view-seen-requires
-view-seen-requires c = c.requires
-
 pub returns : goal.returns
 returns c = sound_judged c.requires (c.decide.ensures _ c.view-seen.ensures)

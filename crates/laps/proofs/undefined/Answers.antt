@@ -4,5 +4,5 @@ use mathlib.Core.Bool.{not}
 use Rattle.lists.proofs.Tests.{went_on}
 use Rattle.laps.proofs.undefined.Goals as goal
 
-pub returns : goal.returns
-returns c = went_on c.sound.ensures (ap not c.if-not-sound.false)
+pub returns-then-sound : goal.returns-then-sound
+returns-then-sound c = went_on c.sound.ensures (ap not c.if-sound.true)

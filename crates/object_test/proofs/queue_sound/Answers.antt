@@ -20,7 +20,7 @@ returns-then-not-may_wait c =
     (goes_on (is_and (is_leb _ _) c.in_range.ensures) (ap not c.if-not-attribute-in_range.false) (stops waits (ap not c.if-not-may_wait.true)))
 
 pub in_order_if-requires : goal.in_order_if-requires
-in_order_if-requires c = (search rules, c.requires.keys_count)
+in_order_if-requires c = search rules
 
 pub returns-then-queue-eq1 : goal.returns-then-queue-eq1
 returns-then-queue-eq1 c =

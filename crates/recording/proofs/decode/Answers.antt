@@ -13,4 +13,4 @@ returns-then-unknown-spare_is_zero c =
 pub returns : goal.returns
 unfolding decoded not_run unknown
 returns c =
-    rw (c.recorded_answer-recorded.ensures, c.call_of-call.ensures, rw (c.spare_is_zero.ensures, c.is_unknown-unknown.ensures) at c.if-unknown-spare_is_zero.false) refl
+    rw (c.recorded_answer.ensures, c.call_of.ensures, rw (c.spare_is_zero.ensures, c.is_unknown-unknown.ensures) at c.if-unknown-spare_is_zero.false) refl

@@ -5,14 +5,8 @@ use Rattle.lists.specs.Tests.{fails}
 use Rattle.lists.proofs.Tests.{is_map, stopped, went_on}
 use Rattle.see.proofs.objects_sound.Goals as goal
 
-pub queue_sound-requires : goal.queue_sound-requires
-queue_sound-requires c = c.requires.0
-
 pub returns-then-not-queue_sound : goal.returns-then-not-queue_sound
 returns-then-not-queue_sound c = fails (λ S. stopped c.queue_sound.ensures (ap not c.if-not-queue_sound.true) S.0)
-
-pub mailbox_sound-requires : goal.mailbox_sound-requires
-mailbox_sound-requires c = c.requires.1
 
 pub returns : goal.returns
 returns c = is_map (λ m. (went_on c.queue_sound.ensures (ap not c.if-not-queue_sound.false), m)) (λ S. S.1) c.mailbox_sound.ensures

@@ -1,5 +1,6 @@
--- `sound` gives the test's outcome.
+-- `sound` says whether anything is seen.
+use Rattle.see.proofs.Laws.{seen_of_sound}
 use Rattle.see.proofs.sound.Goals as goal
 
 pub returns : goal.returns
-returns c = c.see-seen.ensures.tested
+returns c = rw c.is_some.ensures (seen_of_sound _ c.see.result c.see.ensures)

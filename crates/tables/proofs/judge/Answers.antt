@@ -2,4 +2,4 @@
 use Rattle.tables.proofs.judge.Goals as goal
 
 pub returns : goal.returns
-returns c = record { judged = rw c.in_table.ensures at c.judge_sound-decision.ensures; changes_is = c.changes.ensures }
+returns c = rw c.in_table.ensures at c.judge_sound.ensures

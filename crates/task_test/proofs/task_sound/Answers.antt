@@ -1,7 +1,8 @@
 -- `task_sound` is exact: its tests are, and they say what `TaskSound` says of a defined task, and of an undefined one.
+use Rattle.std.proofs.Common.{rules}
 use mathlib.Core.Path.{ap}
 use mathlib.Core.Bool.{not}
-use Rattle.lists.proofs.Tests.{is_and, is_leb, is_eqb, is_T, is_not}
+use Rattle.lists.proofs.Tests.{is_of, is_and, is_leb, is_eqb, is_T, is_not}
 use Rattle.parts.proofs.Stops.{stops, goes_on}
 use Rattle.task_test.proofs.Tasks.{defined_task, undefined_task}
 use Rattle.task_test.proofs.task_sound.Goals as goal
@@ -17,4 +18,4 @@ returns-then-task c =
 
 pub returns : goal.returns
 returns c =
-    undefined_task c.args.task c.if-task.false (is_and (is_and (is_not (is_T c.args.task.suspended)) (is_eqb _ _)) c.no_wait.ensures)
+    undefined_task c.args.task c.if-task.false (is_and (is_and (is_not (is_T c.args.task.suspended)) (is_eqb _ _)) (is_of c.eq.result (λ e. search rules) (λ e q. search rules)))

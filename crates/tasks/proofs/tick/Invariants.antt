@@ -1,11 +1,6 @@
--- `tick` goes from task to task. The loop keeps that what is left of the definition's program runs to what the whole runs to; the tasks left get fewer.
-use Rattle.std.proofs.Common.{suc, ◌-◌}
-use Rattle.model.specs.Sizes.{task_limit}
+-- `tick` goes from task to task. The loop keeps that what is left of the definition's program runs to what the whole runs to.
 use Rattle.tasks.proofs.Turns.{Ticking}
 use Rattle.tasks.proofs.tick.Given as goal
 
 abbrev pub invariant-loop-next : goal.invariant-loop-next
 invariant-loop-next l = Ticking l.counter l.initial.state l.state l.count l.next
-
-abbrev pub decreases-loop-next : goal.decreases-loop-next
-decreases-loop-next l = suc task_limit - l.next

@@ -5,6 +5,6 @@ use Rattle.record.proofs.State.empty.Goals as goal
 
 pub returns : goal.returns
 returns c =
-    let ring = c.new-ring.ensures in
-    let blank : Blank _ _ = record { counter = refl; tasks = refl; waiting = c.new-waiting.ensures; queues = refl; mailboxes = refl; messages = c.new-messages.ensures } in
+    let ring = c.new.ensures in
+    let blank : Blank _ _ = record { counter = refl; tasks = refl; waiting = c.new-2.ensures; queues = refl; mailboxes = refl; messages = c.new-3.ensures } in
     (blank_sound _ _ ring blank, blank_means _ _ ring blank)

@@ -8,8 +8,9 @@ use Rattle.replays.proofs.Replay.is_sound.Goals as goal
 
 pub returns : goal.returns
 returns c =
-    let size : length c.args.self.part ≡ 32 = search rules in
+    let replay = c.args.self.now in
+    let size : length replay.part ≡ 32 = search rules in
     is_map
     (λ p. record { sound = p.1; part_within = let h = p.0.0 in omega arith; part_size = size; possible = p.0.1 })
     (λ S. ((let h = S.part_within in omega arith, S.possible), S.sound))
-    (is_and (is_and (is_ltb c.args.self.length 32) c.is_possible.ensures) c.sound.ensures)
+    (is_and (is_and (is_ltb replay.length 32) c.is_possible.ensures) c.sound.ensures)

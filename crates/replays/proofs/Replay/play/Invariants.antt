@@ -1,11 +1,7 @@
--- `play` takes a record at each turn, and keeps what is left.
-use Prim.Native.Nat.{◌-◌}
-use lib.ListN.{length}
-use Rattle.replays.proofs.Turns.{Going, behind_no_part}
+-- `play` takes a record at each turn.
+use Rattle.replays.specs.Replays.{as_if_whole}
+use Rattle.replays.proofs.Turns.{Going}
 use Rattle.replays.proofs.Replay.play.Given as goal
 
-abbrev pub invariant-loop-at : goal.invariant-loop-at
-invariant-loop-at l = Going (behind_no_part l.self.state l.self.tally) l.bytes l.last.state l.tally l.at
-
-abbrev pub decreases-loop-at : goal.decreases-loop-at
-decreases-loop-at l = length l.bytes - l.at
+abbrev pub invariant-loop-record : goal.invariant-loop-record
+invariant-loop-record l = Going (as_if_whole l.self) l.records l.last.state l.tally l.record-index

@@ -3,12 +3,9 @@ use mathlib.Core.Path.{ap}
 use borrow.Author.Rules.{rules}
 use native.Mathlib.Omega.{arith}
 use lib.ListN.{length}
-use Rattle.ring.proofs.Stored.{length_stored, replaced}
+use Rattle.ring.proofs.Stored.{length_stored}
 use Rattle.ring.proofs.Ring.drop_oldest_and_push.Goals as goal
 
 pub push-requires : goal.push-requires
 push-requires c =
-    (search rules, omega (arith, length_stored c.args.self, ap length c.pop-taken.ensures.words_were))
-
-pub returns : goal.returns
-returns c = replaced c.pop-taken.ensures c.push.ensures
+    (search rules, omega (arith, length_stored c.args.self.now, ap length c.pop-oldest.ensures.words_were))

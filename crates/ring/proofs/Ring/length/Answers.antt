@@ -4,4 +4,4 @@ use Rattle.ring.proofs.Stored.{length_stored}
 use Rattle.ring.proofs.Ring.length.Goals as goal
 
 pub returns : goal.returns
-returns c = omega (arith, length_stored c.args.self)
+returns c = omega (arith, length_stored c.args.self.now)

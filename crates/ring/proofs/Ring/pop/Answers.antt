@@ -5,9 +5,9 @@ use Rattle.ring.proofs.Stored.{length_stored, popped}
 use Rattle.ring.proofs.Ring.pop.Goals as goal
 
 pub overflow_sub-self : goal.overflow_sub-self
-overflow_sub-self c = omega (arith, length_stored c.args.self)
+overflow_sub-self c = omega (arith, length_stored c.args.self.now)
 
 pub returns : goal.returns
 returns c =
     let b = c in
-    popped b.requires.0 (omega arith) (search rules) (omega arith) (omega (arith, length_stored b.args.self)) (omega arith)
+    popped b.requires.0 (omega arith) (search rules) (omega arith) (omega (arith, length_stored b.args.self.now)) (omega arith)

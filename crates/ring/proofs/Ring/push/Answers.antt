@@ -9,9 +9,6 @@ use Rattle.ring.proofs.Ring.push.Goals as goal
 pub bounds-self-at : goal.bounds-self-at
 bounds-self-at c = rw c.place_further-at.ensures (further_is_place places _ _ (omega arith))
 
-pub offset_bounds-self-at : goal.offset_bounds-self-at
-offset_bounds-self-at c = omega (arith, bounds-self-at c)
-
 pub returns : goal.returns
 returns c =
     let b = c in

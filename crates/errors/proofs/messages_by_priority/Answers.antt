@@ -1,8 +1,0 @@
--- `messages_by_priority` is the definition's test: a list of numbers is tested number by number, up to brackets.
-use mathlib.Core.Bool.{or-false}
-use Rattle.lists.specs.Lists.{one_of}
-use Rattle.errors.proofs.messages_by_priority.Goals as goal
-
-pub returns : goal.returns
-unfolding one_of
-returns c = simp or-false
