@@ -26,7 +26,7 @@ pub struct HostReplay {
     pub part: [u8; RECORD_BYTES],
 }
 
-// The line's four numbers, and the code of the end. The spare word is 0.
+// The line's four numbers, and the code of the end: no `Result`, since hosts in C get it. The spare word is 0.
 #[repr(C)]
 #[derive(Clone, Copy, Default)]
 pub struct HostLine {
@@ -86,7 +86,8 @@ fn stored(lent: &HostReplay, replay: &Replay) -> HostReplay
 // A block of any length, on whatever record: a refused one leaves the very record.
 #[tactic(auto, using(crate::proofs::Blocks::taken))]
 pub fn feed(lent: &mut HostReplay, block: &[u8]) -> Result<(), Code>
-    ensures { BlockFed lent.old block.now lent.new result }
+    ensures fed { BlockFed lent.old block.now lent.new result }
+    ensures refused { (code : Code) → result ≡ Err code → lent.new ≡ lent.old }
 {
     let mut replay = replay_of(lent);
     replay.feed(block)?;

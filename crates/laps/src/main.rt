@@ -14,6 +14,7 @@ use parts::{OK, Task};
 use record::{State, Step};
 use recording::RECORD_BYTES;
 use std::io;
+use std::io::Read;
 
 // A record with this number is no call: it is the mark.
 const MARK: u8 = 255;
@@ -164,10 +165,11 @@ fn play<F: Fn(State, Call) -> Step>(input: &mut impl io::Read, start: State, ste
     sum
 }
 
-// Where the first record is missing, there is none behind it: any bytes will do.
+// Where the first record is cut short, the bytes that are there count, and zeros behind them.
 fn main(rt: HostRuntime) -> io::Result<()> {
     let mut input = rt.stdin();
-    let record = read_record(&mut input).unwrap_or([0; RECORD_BYTES]);
+    let mut record = [0u8; RECORD_BYTES];
+    let _ = input.read_exact(&mut record);
     let start = set_up(&mut input, recording::word_at(&record, 4));
     let sum = match record[0] {
         ENTER => play(&mut input, start, through),

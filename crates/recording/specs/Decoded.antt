@@ -14,7 +14,7 @@ use Rattle.recording.specs.declared.Run.{Run}
 abbrev pub recorded_outcome : List ℕ → RecordedOutcome
 recorded_outcome r = cond (eqb (recorded_kind r) 0) (Finished (signed (word r 20))) (Waits (word r 20))
 
--- The fields of the answer as they stand in the record.
+-- The fields of the answer as they stand in the record, where the kind is known.
 abbrev pub recorded_answer : List ℕ → Recorded
 recorded_answer r = record { outcome = recorded_outcome r; a = word r 24; b = byte r 28; c = half r 29 }
 

@@ -69,7 +69,7 @@ pub fn word_at(bytes: &[u8], at: usize) -> u32
 
 // ── A record ──
 
-// Bytes 0 to 15.
+// Bytes 0 to 15. No `From`: neither `Call` nor a slice is a type of this crate.
 pub fn call_of(bytes: &[u8]) -> Call
     requires { length bytes.now ≡ 32 }
     ensures { result ≡ recorded_call bytes.now }

@@ -8,7 +8,7 @@ use model::{Answer, Call, Code};
 use record::State;
 
 // The state is copied before the first call and stored after the last one. An answer is written after the state is taken over: the other way round the compiler
-// copies the state once more (docs/DECISIONS.md).
+// copies the state once more (docs/DECISIONS.md). It answers a code and no `Result`: `TableEntered` speaks of the code that document 02 gives a table.
 pub fn enter_table(lent: &mut State, calls: &[Call], answers: &mut [Answer]) -> Code
     ensures { TableEntered lent.old calls.now answers.old lent.new answers.new result }
 {
