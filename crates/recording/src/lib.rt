@@ -24,6 +24,9 @@ const FINISHED: u8 = 0;
 
 const WAITS: u8 = 1;
 
+// Kinds from here on are unknown.
+const FIRST_UNKNOWN: u8 = 2;
+
 // An outcome in document 01's numbers.
 #[derive(Clone, Copy, PartialEq)]
 pub enum RecordedOutcome {
@@ -31,6 +34,8 @@ pub enum RecordedOutcome {
     Finished(i32),
     // The place.
     Waits(u32),
+    // A kind that no answer has, counted from `FIRST_UNKNOWN`, and the word in the place of code or place. So each recorded kind has a value here.
+    Unknown(u8, u32),
 }
 
 // The answer as it was recorded.
@@ -87,16 +92,19 @@ pub fn call_of(bytes: &[u8]) -> Call
     }
 }
 
-// Bytes 16 to 30, where the kind is known.
+// Bytes 16 to 30.
 fn recorded_answer(bytes: &[u8]) -> Recorded
     requires { length bytes.now ≡ 32 }
     ensures { result ≡ recorded_answer bytes.now }
 {
+    let kind = bytes[16];
     let said = word_at(bytes, 20);
-    let outcome = if bytes[16] == FINISHED {
+    let outcome = if kind == FINISHED {
         RecordedOutcome::Finished(said.cast_signed())
-    } else {
+    } else if kind == WAITS {
         RecordedOutcome::Waits(said)
+    } else {
+        RecordedOutcome::Unknown(kind - FIRST_UNKNOWN, said)
     };
     Recorded {
         outcome,
