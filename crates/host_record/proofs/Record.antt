@@ -4,10 +4,13 @@ use mathlib.Core.Bool.{Bool, cond}
 use mathlib.Core.List.{List, map}
 use mathlib.Core.Logic.{◌⊎◌, inl, inr}
 use Prim.Native.Nat.{ℕ}
+use native.Mathlib.Omega.{arith}
 use native.Mathlib.Decide.{ℕ_discrete}
 use lib.Dec.{T}
 use lib.ListN.{length, length-map, get_or, get_or-map, replicate}
 use Rattle.model.specs.Rows.{Key, task, suspension, queue, mailbox, message, valid, TaskRow, Model, empty_state}
+use Rattle.model.specs.Sizes.{task_limit}
+use Rattle.model.proofs.Tests.{from_within}
 use Rattle.model.specs.Engine.{Lawful}
 use Rattle.model.specs.WellFormed.{WellFormed}
 use Rattle.lists.proofs.Reading.{all_same}
@@ -25,7 +28,7 @@ use Rattle.record.proofs.Laws.{same_row, same_environment}
 use Rattle.record.proofs.Equal.{state_lawful}
 use Rattle.host_record.specs.declared.HostRecord.{HostRecord}
 use Rattle.host_record.specs.Record.{state_of, host_engine}
-use Rattle.host_record.specs.Written.{zero_numbers, Written}
+use Rattle.host_record.specs.Written.{zero_numbers, Writes, Written}
 
 -- The demands' theorems hold of a host's record: what it means and when it is sound are its state's.
 pub host_lawful : Lawful host_engine
@@ -86,6 +89,12 @@ covered (OneTask u) t = elim (ℕ_discrete t u) [
 ]
 covered EveryTask t = inl tt
 
+-- The numbers of a task that wasn't touched aren't written.
+unwritten : (r : Touched) (t : ℕ) → T (valid (task t)) → (Covers r t → ⊥) → Writes r t → ⊥
+unwritten NoTask t v n = λ e. let r = from_within 1 task_limit t v in omega (arith, r.0, e)
+unwritten (OneTask u) t v n = n
+unwritten EveryTask t v n = n
+
 -- The record before holds s₀, and the touched tasks of s were written: whatever wasn't touched is in s as it was in s₀.
 module _ {before r : HostRecord} {s : State} {touched : Touched} (w : Written before s touched r)
     (untouched : (t : ℕ) → (Covers touched t → ⊥) → SameTask (abs (state_of before)) (abs s) t) where
@@ -100,20 +109,20 @@ module _ {before r : HostRecord} {s : State} {touched : Touched} (w : Written be
   unfolding read_task wait_of
   touched_is t v h = get_or-map read_task r.tasks t zero_numbers ∙ w.tasks.written t v h
 
-  untouched_is : (t : ℕ) → (Covers touched t → ⊥) → task_at (with_tasks tasks s) t ≡ task_at (state_of before) t
+  untouched_is : (t : ℕ) → T (valid (task t)) → (Covers touched t → ⊥) → task_at (with_tasks tasks s) t ≡ task_at (state_of before) t
   unfolding read_task wait_of
-  untouched_is t n = get_or-map read_task r.tasks t zero_numbers ∙ (ap read_task (w.tasks.kept t n) ∙ sym (task_read before t))
+  untouched_is t v n = get_or-map read_task r.tasks t zero_numbers ∙ (ap read_task (w.tasks.kept t (unwritten touched t v n)) ∙ sym (task_read before t))
 
   -- Each task has the row, and the suspension, that it has in s.
   module _ (t : ℕ) (v : T (valid (task t))) where
     row_kept : (Covers touched t → ⊥) → cells_of (with_tasks tasks s) (task t) ≡ cells_of s (task t)
     row_kept n =
         let same : cells_of s (task t) ≡ cells_of (state_of before) (task t) = sym (row_is s (task t) v) ∙ ((untouched t n).row ∙ row_is (state_of before) (task t) v) in
-        ap (λ (x : Task). task_row x (get_or s.waiting.key t 0)) (untouched_is t n) ∙ same_but_key (task_at s t) (task_at (state_of before) t) (get_or s.waiting.key t 0) (get_or (state_of before).waiting.key t 0) same
+        ap (λ (x : Task). task_row x (get_or s.waiting.key t 0)) (untouched_is t v n) ∙ same_but_key (task_at s t) (task_at (state_of before) t) (get_or s.waiting.key t 0) (get_or (state_of before).waiting.key t 0) same
 
     suspension_kept : (Covers touched t → ⊥) → cells_of (with_tasks tasks s) (suspension t) ≡ cells_of s (suspension t)
     suspension_kept n =
-        ap (λ (x : Task). x.suspended) (untouched_is t n)
+        ap (λ (x : Task). x.suspended) (untouched_is t v n)
         ∙ (sym (row_is (state_of before) (suspension t) v) ∙ (sym (untouched t n).suspended ∙ row_is s (suspension t) v))
 
     by_touch : {P : Type 0} → (Covers touched t → P) → ((Covers touched t → ⊥) → P) → P

@@ -5,7 +5,7 @@
 ghost use Rattle.std.specs.Prelude.{◌≡◌};
 ghost use Rattle.model.specs.Rows.{empty_state};
 ghost use Rattle.host_record.specs.Record.{state_of, HostSound, meaning};
-ghost use Rattle.host_record.specs.Written.{TasksWritten, restored};
+ghost use Rattle.host_record.specs.Written.{number_written, TasksWritten, restored};
 ghost use Rattle.decide.specs.declared.Touched.TheVariants.{EveryTask};
 ghost use Rattle.host_record.specs.Step.{CallJudged, Said, Stored};
 ghost use Rattle.host_record.specs.Sets.{SetsOf};
@@ -62,6 +62,17 @@ fn write_all(
     numbers
 }
 
+// Whose numbers are written where not all are: where no task was touched, those of number 0, which is nobody's.
+fn number_written(touched: Touched) -> Option<u8>
+    ensures { result ≡ number_written touched }
+{
+    match touched {
+        Touched::NoTask => Some(0),
+        Touched::OneTask(task) => Some(task),
+        Touched::EveryTask => None,
+    }
+}
+
 // The numbers of the tasks after a step: those of the one task that it touched, of none, or of all are written anew.
 fn tasks_after(
     mut numbers: [HostTask; TASK_CELLS],
@@ -70,17 +81,14 @@ fn tasks_after(
 ) -> [HostTask; TASK_CELLS]
     ensures { TasksWritten numbers tasks touched result }
 {
-    match touched {
-        Touched::NoTask => numbers,
-        Touched::OneTask(task) => {
-            let one = task as usize;
-            if one < TASK_CELLS {
-                numbers[one] = HostTask::from(tasks[one]);
-            }
-            numbers
-        }
-        Touched::EveryTask => write_all(numbers, tasks),
+    let Some(number) = number_written(touched) else {
+        return write_all(numbers, tasks);
+    };
+    let one = number as usize;
+    if one < TASK_CELLS {
+        numbers[one] = HostTask::from(tasks[one]);
     }
+    numbers
 }
 
 // The record in which nothing is defined, at counter 0.
