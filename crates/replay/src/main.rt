@@ -5,7 +5,7 @@
 use model::Code;
 use replays::Replay;
 use std::io;
-use std::io::{ErrorKind, IsTerminal, Read};
+use std::io::{ErrorKind, IsTerminal, Read, Write};
 use std::ops::ControlFlow;
 
 // After so many reads a terminal is shown how far the replay is.
@@ -46,7 +46,7 @@ fn tell_refusal(rt: &impl Eprint, code: Code) {
 fn print_line(rt: &HostRuntime, replay: &Replay) {
     match replay.end() {
         Ok(line) => {
-            if let Err(error) = println!(rt; "{line}") {
+            if let Err(error) = writeln!(rt.stdout(), "{line}") {
                 let _ = eprintln!(rt; "standard output: {error}");
             }
         }

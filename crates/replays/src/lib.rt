@@ -42,7 +42,8 @@ pub struct Line {
     pub tail: u64,
 }
 
-// The four numbers, each behind its name.
+// The four numbers, each behind its name. A name, the space behind it and a number are a piece each: where they are written one by one and the writing fails
+// in the midst of the line, the pieces before are out.
 impl fmt::Display for Line {
     ghost output = { λ line. Some (text line) };
 
@@ -55,7 +56,8 @@ impl fmt::Display for Line {
         let tail = self.tail;
         write!(
             f,
-            "records {records} differ {differ} first {first} tail {tail}"
+            "{} {records}{} {differ}{} {first}{} {tail}",
+            "records", " differ", " first", " tail"
         )
     }
 }
