@@ -10,7 +10,7 @@ ghost use Rattle.model.specs.Calls as calls;
 ghost use Rattle.model.specs.Calls.{View};
 ghost use Rattle.model.specs.Waits as waits;
 ghost use Rattle.model.specs.Errors as table;
-ghost use Rattle.errors.specs.Seen.{Shows, refusal_of};
+ghost use Rattle.errors.specs.Seen.{Shows, is_ok, refusal_of};
 
 use model::{
     CALL_LIMIT, CAPACITY_LIMIT, Call, Code, MAILBOX_LIMIT, MESSAGE_LIMIT, PRIORITY_LIMIT,
@@ -372,4 +372,11 @@ pub fn refusal(call: Call, seen: Seen) -> Result<(), Code>
         return Err(Code::Par);
     }
     refusal_from_step_5(call, seen)
+}
+
+// True exactly for E_OK.
+pub fn accepts(code: Code) -> bool
+    ensures { result ≡ is_ok code }
+{
+    matches!(code, Code::Ok)
 }
