@@ -24,9 +24,9 @@
  *   - The context is true: who calls, and whether the CPU is locked or dispatching disabled.
  *   - Arguments fit their 32 bits. C cuts a wider number down before the kernel sees it; gcc and clang warn of that with -Wconversion.
  *
- * What it costs, on x86-64: 16,102 bytes of code and 608 of constants; a record of LINGUASTEL_RECORD_SIZE bytes, which the host lends; no heap, no static
- * data. Stack at most 10,720 bytes for a call or the tick, 12,576 for a table, 27,584 for a block of a replay. Instructions at most, of what a search found,
- * 9,668 for a call and 12,914 for a tick, and on top what memcpy takes for up to 18,072 bytes. A table adds 17,568 bytes of code, the replay 15,625. Each call
+ * What it costs, on x86-64: 15,890 bytes of code and 1,008 of constants; a record of LINGUASTEL_RECORD_SIZE bytes, which the host lends; no heap, no static
+ * data. Stack at most 8,224 bytes for a call or the tick, 9,968 for a table, 11,600 for a block of a replay. Instructions at most, of what a search found,
+ * 9,257 for a call and 12,666 for a tick, and on top what memcpy takes for up to 15,104 bytes. A table adds 17,390 bytes of code, the replay 12,837. Each call
  * tests the whole record; a table tests it once for all of its calls. docs/FIGURES.md, Footprint, has each call.
  */
 #ifndef LINGUASTEL_H
@@ -681,7 +681,7 @@ LINGUASTEL_MUST_USE static inline LinguastelLine linguastel_replay_end(const Lin
  * A pointer that is null with a size above 0 leads to no block. As for tables it is answered E_PAR, after the replay's test; no memory is written. Null with
  * size 0 is a block of no bytes: the library is handed the pointer of a local, which it doesn't read. The bytes of a block may stand at any address.
  *
- * The function takes up to 28 KB of stack.
+ * The function takes up to 12 KB of stack.
  */
 LINGUASTEL_MUST_USE static inline int32_t linguastel_replay_feed(LinguastelReplay *replay, const uint8_t *block, size_t size)
 {
