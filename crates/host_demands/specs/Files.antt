@@ -10,7 +10,7 @@ use Rattle.demands.specs.Runs.{ListsRun}
 abbrev pub EveryFileForHosts : Type 0
 EveryFileForHosts = EveryFile replay_of number
 
--- This is not about nothing: wherever blocks are fed by that contract, as the code feeds them, every list of blocks is fed to its end; and so by `Replay::feed`.
+-- This is not about nothing: wherever blocks are fed by that contract, as the code feeds them, every list of blocks is fed to its end; so by `Replay::feed`.
 abbrev pub BlocksRunForHosts : Type 1
 BlocksRunForHosts = ListsRun BlockTaken
 
